@@ -1,0 +1,15 @@
+//! What a netlist of gates and D flip-flops means over a number of cycles, and what a set of known bits forces in it.
+//!
+//! The definitions are in `specs/`; the laws of the closure are the contracts of `laws`.
+#![tactic(auto)]
+
+mod cells;
+mod gates;
+mod laws;
+mod lists;
+mod statements;
+
+pub use cells::{Cell, Lit, Place, Sig};
+pub use gates::{Kind, eval};
+pub use lists::{Bytes, Lits, Names, NoMemory, Sequence, Sigs, Statements};
+pub use statements::{Numbered, Statement};
