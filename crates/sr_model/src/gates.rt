@@ -1,5 +1,5 @@
 //! The kinds of gate and flip-flop, and what a gate gives.
-ghost use Rattle.std.specs.Prelude.{◌≡◌, ◌≢◌, length};
+ghost use Rattle.std.specs.Prelude.{◌≡◌, length};
 ghost use Rattle.sr_model.specs.Gate.{value, all_one, some_one, odd_one, IsPinCount};
 
 /// What drives a signal: a gate, or a D flip-flop.
@@ -17,11 +17,11 @@ pub enum Kind {
 }
 
 /// The bit that a gate gives to its target, where its pins have these bits, from left to right. A repeated pin counts each time.
+/// A flip-flop gives the bit of its pin, one cycle later.
 ///
 /// It reads each bit once at most, and takes no memory.
 pub fn eval(kind: Kind, bits: &[bool]) -> bool
-    requires gate { kind ≢ Kind.Dff }
-    requires pins { IsPinCount kind (length bits.now) }
+    requires { IsPinCount kind (length bits.now) }
     ensures { result ≡ value kind bits.now }
 {
     match kind {

@@ -8,6 +8,8 @@ mod gates;
 mod laws;
 mod lists;
 mod statements;
+#[cfg(test)]
+mod tests;
 
 pub use cells::{Cell, Lit, Place, Sig};
 pub use gates::{Kind, eval};

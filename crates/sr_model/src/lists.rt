@@ -39,10 +39,11 @@ impl<T: Drop> Sequence<T> {
         }
     }
 
-    /// An empty list with room for so many items at least.
+    /// An empty list with room for so many items at least. No room takes no memory.
     pub fn with_room(alloc: Global, room: usize) -> Result<Sequence<T>, NoMemory>
         ensures items { IfOk result (λ list. list.items ≡ []) }
         ensures room { IfOk result (λ list. room ≤ list.room) }
+        ensures no_room { room ≡ 0 → IsOk result }
     {
         match Vec::with_capacity(alloc, room) {
             Ok(items) => Ok(Sequence { items }),
