@@ -1,0 +1,23 @@
+//! The outside of the program: inputs that are read by name, and a sink that is written to.
+//!
+//! Both may fail at any call. Each counts its faults, so that a contract can say that a fault is answered
+//! only where one was counted. What they hold is told to contracts as options: inputs and sinks in memory tell
+//! everything, files and standard output tell no bytes.
+#![tactic(auto)]
+
+mod files;
+mod inputs;
+mod memory;
+mod named;
+mod sink;
+#[cfg(test)]
+mod tests;
+mod whole;
+mod write;
+
+pub use files::{FileInputs, StdSink};
+pub use inputs::{Failed, Inputs};
+pub use memory::{MemInputs, MemSink};
+pub use sink::Sink;
+pub use whole::{PIECE, ReadRefusal, read_whole};
+pub use write::{WriteFault, write_all};
