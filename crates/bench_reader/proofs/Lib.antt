@@ -1,0 +1,4 @@
+pub mod Scanning
+pub mod FirstFormLaws
+pub mod FirstFormNames
+pub mod Reading
