@@ -5,7 +5,7 @@ use Rattle.sr_model.specs.declared.cells.Cell.{Cell}
 use Rattle.sr_model.specs.declared.gates.Kind.TheVariants.{And, Nand, Or, Nor, Not, Buf, Dff}
 use Rattle.sr_model.specs.Gate.{all_one, some_one}
 use Rattle.sr_model.specs.Netlist.{Valuation}
-use Rattle.sr_model.proofs.AndLike.{IsAndLike, all_have}
+use Rattle.sr_model.specs.AndLike.{IsAndLike, all_have}
 
 beq-true_is : (b : Bool) → beq b true ≡ b
 beq-true_is true = refl

@@ -6,6 +6,7 @@ use Rattle.std.proofs.lemmas.Bool.{cases_Bool, true≢false, not-true, not-false
 use Rattle.std.proofs.lemmas.List.Elements.{All-contains, All-map, All-head, All-cons}
 use Rattle.sr_model.specs.declared.cells.Cell.{Cell}
 use Rattle.sr_model.specs.declared.cells.Lit.{Lit}
+use Rattle.sr_model.specs.AndLike.{all_have, IsAndLike}
 use Rattle.sr_model.specs.Gate.{value}
 use Rattle.sr_model.specs.Netlist.{Instance, cells_of, Valuation, IsRow, Has}
 use Rattle.sr_model.specs.Closure.{Forces, passing, lit}
@@ -45,13 +46,6 @@ bit_cases true true = inl refl
 bit_cases true false = inr refl
 bit_cases false true = inr refl
 bit_cases false false = inl refl
-
-abbrev pub all_have : Bool → Valuation → List Cell → Bool
-all_have p w pins = list_all (λ c. beq (w c) p) pins
-
--- the gate's meaning
-abbrev pub IsAndLike : Bool → Bool → Instance → Type 0
-IsAndLike p t i = (w : Valuation) → value i.kind (map w i.pins) ≡ cond (all_have p w i.pins) t (not t)
 
 module _ (p t : Bool) (i : Instance) (and_like : IsAndLike p t i) where
   all_p : (w : Valuation) → ((c : Cell) → Contains i.pins c → w c ≡ p) → value i.kind (map w i.pins) ≡ t

@@ -11,7 +11,8 @@ use Rattle.sr_model.specs.Netlist.{Input, Driven, Instance, Valuation, IsExecuti
 use Rattle.sr_model.specs.Closure.{Forces, Closure, IsClosed, passing, lit}
 use Rattle.sr_model.specs.Worked.{sig, cell, missed, nothing}
 use Rattle.sr_model.proofs.Members.{not_in_nil, Contains-cases, Contains-here}
-use Rattle.sr_model.proofs.AndLike.{IsAndLike, bit_cases, target_t, target_other, pin_p, pin_other}
+use Rattle.sr_model.specs.AndLike.{IsAndLike}
+use Rattle.sr_model.proofs.AndLike.{bit_cases, target_t, target_other, pin_p, pin_other}
 use Rattle.sr_model.proofs.AndKinds.{not_is, or_gate_is}
 use Rattle.sr_model.proofs.ClosureLaws.{least}
 use Rattle.sr_model.proofs.Instances.{stands, Stands, instance_of}

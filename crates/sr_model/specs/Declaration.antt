@@ -17,6 +17,10 @@ declaration_of (Input name) = InputNamed name.items
 declaration_of (OutputOf name) = OutputNamed name.items
 declaration_of (Drive target kind pins) = DriverNamed target.items kind (texts pins)
 
--- the declarations in order, each with its line
+-- the declarations in order
+abbrev pub declared : WithRoom Numbered → List Declaration
+declared statements = map (λ s. declaration_of s.statement) statements.items
+
+-- the same, each with its line
 abbrev pub declarations_of : WithRoom Numbered → List (ℕ × Declaration)
 declarations_of statements = map (λ s. (s.line, declaration_of s.statement)) statements.items

@@ -1,3 +1,4 @@
+pub mod AndLike
 pub mod Closure
 pub mod Declaration
 pub mod Dump

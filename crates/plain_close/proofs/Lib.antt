@@ -1,0 +1,5 @@
+pub mod Closed
+pub mod Growing
+pub mod Marks
+pub mod Statements
+pub mod Tied

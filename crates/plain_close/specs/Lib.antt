@@ -1,0 +1,4 @@
+pub mod Circuit
+pub mod Forcing
+pub mod Sweep
+pub mod Table
