@@ -1,0 +1,10 @@
+pub mod Answering
+pub mod DumpLaws
+pub mod DumpReading
+pub mod DumpScanning
+pub mod OneAnswer
+pub mod Pieces
+pub mod Sounding
+pub mod TableBits
+pub mod TableRows
+pub mod ThreeWords

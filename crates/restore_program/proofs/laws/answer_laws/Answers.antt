@@ -1,0 +1,8 @@
+use Rattle.restore_program.proofs.OneAnswer.{one_answer, accepted_is_answered}
+use Rattle.restore_program.proofs.laws.answer_laws.Goals as goal
+
+pub returns-clause-one_answer : goal.returns-clause-one_answer
+returns-clause-one_answer c = one_answer
+
+pub returns-clause-accepted : goal.returns-clause-accepted
+returns-clause-accepted c = accepted_is_answered

@@ -1,0 +1,29 @@
+use Rattle.std.proofs.Common.{◌≡◌, List, ℕ, map, sym, ap, subst, ◌∙◌}
+use Rattle.std.specs.Prelude.{IfSome}
+use Rattle.std.specs.String.{string_bytes}
+use Rattle.std.specs.Io.KnownBytes.{append_known}
+use Rattle.restore_program.specs.Reply.{clash_line, text_of}
+use Rattle.restore_program.specs.Sound.{Finishes, IsAccepted, NoneMatches}
+use Rattle.restore_program.proofs.Sounding.{sound_reply, clash_reply, appended_is, finishes}
+use Rattle.restore_program.proofs.top.run.Goals as goal
+
+pub returns-in-Ok-clause-sound : goal.returns-in-Ok-clause-sound
+returns-in-Ok-clause-sound g c e = (
+  text_of c.reply_to-reply.result,
+  c.in-Ok.ensures.written,
+  sound_reply (map string_bytes c.args.words.now) (g.I.Inputs.held c.args.inputs.now) c.reply_to-reply.result c.reply_to-reply.ensures.answer (sym c.reply_status.ensures ∙ e),
+)
+
+pub returns-in-Ok-clause-contradiction : goal.returns-in-Ok-clause-contradiction
+returns-in-Ok-clause-contradiction g c e =
+    appended_is (IfSome (g.I.Inputs.held c.args.inputs.now) (NoneMatches (map string_bytes c.args.words.now))) (g.K.Sink.written c.args.out.now) (g.K.Sink.written c.write_reply.new.out)
+    (text_of c.reply_to-reply.result) clash_line c.in-Ok.ensures.written
+    (λ line. clash_reply (map string_bytes c.args.words.now) (g.I.Inputs.held c.args.inputs.now) c.reply_to-reply.result c.reply_to-reply.ensures.answer (sym c.reply_status.ensures ∙ e) line)
+
+pub returns-in-Ok-clause-accepted : goal.returns-in-Ok-clause-accepted
+returns-in-Ok-clause-accepted g c =
+    let words : List (List ℕ) = map string_bytes c.args.words.now in
+    subst (λ status. IfSome (g.I.Inputs.held c.args.inputs.now) (λ held. IsAccepted words held → Finishes (g.K.Sink.written c.write_reply.new.out ≡ append_known (g.K.Sink.written c.args.out.now) clash_line) status))
+    (sym c.reply_status.ensures)
+    (finishes (g.K.Sink.written c.write_reply.new.out ≡ append_known (g.K.Sink.written c.args.out.now) clash_line) words (g.I.Inputs.held c.args.inputs.now) c.reply_to-reply.result c.reply_to-reply.ensures.answer
+    (λ line. c.in-Ok.ensures.written ∙ ap (append_known (g.K.Sink.written c.args.out.now)) line))

@@ -1,0 +1,12 @@
+pub mod Answer
+pub mod AnswerLaws
+pub mod DumpScan
+pub mod FirstDump
+pub mod Refusal
+pub mod Reply
+pub mod Sound
+pub mod Status
+pub mod TableBits
+pub mod TableText
+pub mod Words
+pub mod Writes

@@ -1,0 +1,19 @@
+//! The program: from the words of the command line to the text that is written.
+#![tactic(auto)]
+
+mod dump;
+mod laws;
+mod reply;
+mod restore;
+mod status;
+mod table;
+#[cfg(test)]
+mod tests;
+mod top;
+mod words;
+
+pub use dump::first_dump_laws;
+pub use laws::answer_laws;
+pub use status::Status;
+pub use top::run;
+pub use words::{Settings, WordRefusal, read_words};

@@ -1,0 +1,76 @@
+//! The top call.
+ghost use Rattle.std.specs.Prelude.{◌≡◌, ◌≢◌, ◌<◌, ◌≤◌, ◌⊎◌, ◌++◌, List, ℕ, map, IfSome, Some};
+ghost use Rattle.std.specs.String.{string_bytes};
+ghost use Rattle.std.specs.Io.KnownBytes.{append_known};
+ghost use Rattle.sr_outside.specs.Counts.{IsCounted};
+ghost use Rattle.sr_outside.specs.Told.{IsFull};
+ghost use Rattle.restore_program.specs.Words.{IsRestore};
+ghost use Rattle.restore_program.specs.Answer.{AreSteady, IsFault, ReplyAnswer, Says};
+ghost use Rattle.restore_program.specs.Reply.{clash_line};
+ghost use Rattle.restore_program.specs.Sound.{Finishes, IsAccepted, IsSoundTable, NoneMatches};
+
+use crate::reply::{Reply, reply_status, write_reply};
+use crate::restore::restore_reply;
+use crate::status::Status;
+use crate::words::{Settings, WordRefusal, read_words};
+use sr_outside::{Inputs, Sink, WriteFault};
+use std::alloc::Global;
+use std::thread::Threads;
+
+/// Runs the command that the words ask for: reads its files by the inputs, and writes its result, or why there is none, to the sink.
+/// It always returns.
+pub fn run<R: Threads + Sync, I: Inputs, K: Sink>(
+    rt: &R,
+    alloc: Global,
+    words: &[String],
+    inputs: &mut I,
+    out: &mut K,
+) -> Status
+    // Unless writing fails, a whole text is appended, and where the inputs tell what they hold, it and the status are the answer.
+    ensures answer { result ≢ Status.WriteFault → (text : List ℕ) × (K.written out.new ≡ append_known (K.written out.old) text)
+        × Says (map string_bytes words.now) (I.held inputs.old) text result }
+
+    // Each bit of a table is that of every execution that matches the dump, and a contradiction is written only where none matches.
+    ensures sound { result ≡ Status.Done → (text : List ℕ) × (K.written out.new ≡ append_known (K.written out.old) text)
+        × IfSome (I.held inputs.old) (IsSoundTable (map string_bytes words.now) text) }
+    ensures contradiction { result ≡ Status.Dump → IfSome (K.written out.old) (λ before. K.written out.new ≡ Some (before ++ clash_line)
+        → IfSome (I.held inputs.old) (NoneMatches (map string_bytes words.now))) }
+
+    // An accepted netlist and dump end in a table or the contradiction's line, unless memory, reading or writing fails.
+    ensures accepted { IfSome (I.held inputs.old) (λ held. IsAccepted (map string_bytes words.now) held
+        → Finishes (K.written out.new ≡ append_known (K.written out.old) clash_line) result) }
+
+    // Words that are refused start no input.
+    ensures usage { result ≡ Status.Words → ¬ IsRestore (map string_bytes words.now) }
+    ensures refused { ¬ IsRestore (map string_bytes words.now) → ((result ≡ Status.Words) ⊎ (result ≡ Status.WriteFault)) × (inputs.new ≡ inputs.old) }
+
+    // A fault is answered only where one was counted.
+    ensures read_fault { result ≡ Status.ReadFault → IsCounted (I.faults inputs.old) (I.faults inputs.new) }
+    ensures read_rose { I.faults inputs.old < I.faults inputs.new → (result ≡ Status.ReadFault) ⊎ (result ≡ Status.WriteFault) }
+    ensures steady { AreSteady (I.held inputs.old) (I.shaky inputs.old) (map string_bytes words.now) → I.faults inputs.new ≡ I.faults inputs.old }
+    ensures write_fault { result ≡ Status.WriteFault → IsCounted (K.faults out.old) (K.faults out.new) }
+    ensures write_rose { K.faults out.old < K.faults out.new → result ≡ Status.WriteFault }
+    ensures full { result ≡ Status.WriteFault → IsFull (K.written out.new) (K.room out.new) }
+{
+    let _ = rt;
+    let reply = reply_to(alloc, words, inputs);
+    match write_reply(&reply, out) {
+        Ok(()) => reply_status(&reply),
+        Err(WriteFault) => Status::WriteFault,
+    }
+}
+
+/// What is written of these words.
+fn reply_to<I: Inputs>(alloc: Global, words: &[String], inputs: &mut I) -> Reply
+    ensures answer { ReplyAnswer (map string_bytes words.now) (I.held inputs.old) result }
+    ensures usage { result ≡ Reply.Usage → ¬ IsRestore (map string_bytes words.now) }
+    ensures refused { ¬ IsRestore (map string_bytes words.now) → (result ≡ Reply.Usage) × (inputs.new ≡ inputs.old) }
+    ensures fault { IsFault result → IsCounted (I.faults inputs.old) (I.faults inputs.new) }
+    ensures rose { I.faults inputs.old < I.faults inputs.new → IsFault result }
+    ensures steady { AreSteady (I.held inputs.old) (I.shaky inputs.old) (map string_bytes words.now) → I.faults inputs.new ≡ I.faults inputs.old }
+{
+    match read_words(words) {
+        Ok(Settings::Restore) => restore_reply(alloc, inputs, words[1].as_str(), words[2].as_str()),
+        Err(WordRefusal::Usage) => Reply::Usage,
+    }
+}
