@@ -34,7 +34,7 @@ use Rattle.restore_program.specs.FirstDump.{SpellsDump, BreaksDumpAt}
 use Rattle.restore_program.specs.Reply.{text_of, status_of, too_long_line}
 use Rattle.restore_program.specs.TableText.{table_text}
 use Rattle.restore_program.specs.Words.{IsRestore, Restores}
-use Rattle.restore_program.specs.Answer.{most_bytes, names_of, OnDump, clash, table, too_long, reads, netlist_too_long, netlist_breaks, Replies, IsFault, RestoreAnswer, DumpAnswer, OnLits, breaks, usage, restore, ReplyAnswer, unread_reply, refused_netlist_reply, refused_dump_reply}
+use Rattle.restore_program.specs.Answer.{most_bytes, names_of, OnDump, clash, table, too_long, reads, netlist_too_long, netlist_breaks, Replies, IsFault, RestoreAnswer, DumpAnswer, OnLits, breaks, usage, restore, ReplyAnswer, unread_reply, refused_netlist_reply, refused_dump_reply, Answer, IsPlain, IsDumpFault, IsFaultOf, IsWordsFault, IsNetlist, OnFault, Says}
 
 -- ---- a test for the literals of a list
 
@@ -196,3 +196,59 @@ answers_words (Some held) words netlist dump reply restores answer = λ plain.
 pub answers_refused : (told : Option Held) (words : List (List ℕ)) → ¬ IsRestore words → ReplyAnswer words told replies.Usage
 answers_refused None words other = tt
 answers_refused (Some held) words other = λ _. usage other
+
+-- ---- which input was not read
+
+pub no_faults : (P : Part → Type 0) (reply : Reply) → (IsFault reply → ⊥) → OnFault P reply
+no_faults P (replies.Fault part) none = absurd (none tt)
+no_faults P replies.Usage none = tt
+no_faults P (replies.TooLong part) none = tt
+no_faults P (replies.Later part line) none = tt
+no_faults P replies.Clash none = tt
+no_faults P replies.NoMemory none = tt
+no_faults P (replies.Table text) none = tt
+
+pub faults_also : (P Q : Part → Type 0) (reply : Reply) → ((part : Part) → P part → Q part) → OnFault P reply → OnFault Q reply
+faults_also P Q (replies.Fault part) also h = also part h
+faults_also P Q replies.Usage also h = tt
+faults_also P Q (replies.TooLong part) also h = tt
+faults_also P Q (replies.Later part line) also h = tt
+faults_also P Q replies.Clash also h = tt
+faults_also P Q replies.NoMemory also h = tt
+faults_also P Q (replies.Table text) also h = tt
+
+pub unread_faults : (P : Part → Type 0) (part : Part) (refusal : ReadRefusal) → (IsErrOf (whole refusal) refusals.Fault → P part) → OnFault P (unread_reply part refusal)
+unread_faults P part refusals.Fault h = h refl
+unread_faults P part refusals.TooLong h = tt
+unread_faults P part refusals.NoMemory h = tt
+
+pub netlist_faults : (P : Part → Type 0) (refusal : BenchRefusal) → OnFault P (refused_netlist_reply refusal)
+netlist_faults P (bench.Later line) = tt
+netlist_faults P bench.NoMemory = tt
+
+-- a fault of the dump behind an accepted netlist
+pub dump_fault_of : (told : Option Held) (shaky : Option (List ℕ → Bool)) (netlist dump bytes : List ℕ) (ds : List Declaration) → IfSome told (λ held. held netlist ≡ Some bytes) → length bytes ≤ most_bytes → Spells bytes ds
+    → (part : Part) → IsDumpFault told shaky dump part → IsFaultOf told shaky netlist dump part
+dump_fault_of told shaky netlist dump bytes ds is short spells parts.Netlist h = absurd h
+dump_fault_of told shaky netlist dump bytes ds is short spells parts.Dump h = (h, accepted told is) where
+  accepted : (t : Option Held) → IfSome t (λ held. held netlist ≡ Some bytes) → IfSome t (IsNetlist netlist)
+  accepted None there = tt
+  accepted (Some held) there = (bytes, ds, there, short, spells)
+
+-- ---- what a reply's text and status say
+
+plainly : (words : List (List ℕ)) (told : Option Held) (reply : Reply) → ReplyAnswer words told reply → IsPlain (status_of reply) → IfSome told (λ held. Answer words held (text_of reply) (status_of reply))
+plainly words None reply answer plain = tt
+plainly words (Some held) reply answer plain = answer plain
+
+pub says : (words : List (List ℕ)) (told : Option Held) (shaky : Option (List ℕ → Bool)) (reply : Reply) → ReplyAnswer words told reply → OnFault (IsWordsFault words told shaky) reply
+    → Says words told shaky (text_of reply) (status_of reply)
+says words told shaky (replies.Fault part) answer fault = (part, refl, fault)
+says words told shaky replies.NoMemory answer fault = refl
+says words told shaky replies.Usage answer fault = plainly words told replies.Usage answer tt
+says words told shaky replies.Clash answer fault = plainly words told replies.Clash answer tt
+says words told shaky (replies.Table text) answer fault = plainly words told (replies.Table text) answer tt
+says words told shaky (replies.TooLong parts.Netlist) answer fault = plainly words told (replies.TooLong parts.Netlist) answer tt
+says words told shaky (replies.TooLong parts.Dump) answer fault = plainly words told (replies.TooLong parts.Dump) answer tt
+says words told shaky (replies.Later parts.Netlist line) answer fault = plainly words told (replies.Later parts.Netlist line) answer tt
+says words told shaky (replies.Later parts.Dump line) answer fault = plainly words told (replies.Later parts.Dump line) answer tt

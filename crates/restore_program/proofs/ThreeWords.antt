@@ -1,5 +1,5 @@
 -- When the words are `restore` and two more.
-use Rattle.std.proofs.Common.{◌≡◌, List, ℕ, [], ◌∷◌, length, get_or, refl, sym, ap, ◌∙◌, arith}
+use Rattle.std.proofs.Common.{◌≡◌, List, ℕ, [], ◌∷◌, length, get_or, refl, sym, ap, subst, ◌∙◌, arith}
 use Rattle.std.specs.Prelude.{codes, map}
 use Rattle.restore_program.specs.declared.words.Settings.{Settings}
 use Rattle.restore_program.specs.declared.words.Settings.TheVariants as settings_of
@@ -26,6 +26,12 @@ named_words text (w ∷ x ∷ []) netlist dump e second third b c = absurd (omeg
 named_words text (w ∷ x ∷ y ∷ z ∷ rest) netlist dump e second third b c = absurd (omega (arith, ap length e))
 named_words text (w ∷ x ∷ y ∷ []) netlist dump e second third b c =
     ap (λ a. a ∷ text x ∷ text y ∷ []) (ap (λ ws. get_or ws 0 []) e) ∙ ap (λ a. codes "restore" ∷ text a ∷ text y ∷ []) (sym b) ∙ ap (λ a. codes "restore" ∷ text second ∷ text a ∷ []) (sym c)
+
+-- the same of texts that are those of the two words
+pub asked_words : {A : Type 0} (text : A → List ℕ) (words : List A) → IsRestore (map text words) → (second third : A) → second ≡ get_or words 1 second → third ≡ get_or words 2 third
+    → (netlist dump : List ℕ) → netlist ≡ text second → dump ≡ text third → Restores (map text words) netlist dump
+asked_words text words (first, other, e) second third b c netlist dump is is_dump =
+    subst (λ t. Restores (map text words) t dump) (sym is) (subst (λ t. Restores (map text words) (text second) t) (sym is_dump) (named_words text words first other e second third b c))
 
 -- there is one thing that words ask for, and one refusal
 pub one_command : (settings : Settings) → settings ≡ settings_of.Restore

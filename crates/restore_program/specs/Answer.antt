@@ -108,13 +108,31 @@ ReplyAnswer words told reply = IfSome told (λ held. Replies (Answer words held)
 abbrev pub AreSteady : Option Held → Option (List ℕ → Bool) → List (List ℕ) → Type 0
 AreSteady told shaky words = (netlist dump : List ℕ) → Restores words netlist dump → IsSteady told shaky netlist × IsSteady told shaky dump
 
--- a status that says that something was not read, not written or not had
-abbrev pub IsFaultLine : List ℕ → Type 0
-IsFaultLine text = (part : Part) × (text ≡ fault_line part)
+-- the netlist of this name is held and accepted
+abbrev pub IsNetlist : List ℕ → Held → Type 0
+IsNetlist netlist held = (bytes : List ℕ) × (ds : List Declaration) × (held netlist ≡ Some bytes) × (length bytes ≤ most_bytes) × Spells bytes ds
 
--- the text that is written with a status, where the inputs tell what they hold
-abbrev pub Says : List (List ℕ) → Option Held → List ℕ → Status → Type 0
-Says words told text statuses.ReadFault = IsFaultLine text
-Says words told text statuses.NoMemory = text ≡ no_memory_line
-Says words told text statuses.WriteFault = ⊥
-Says words told text status = IfSome told (λ held. Answer words held text status)
+-- A fault can be one of this part: only where it is not told that no call on its name is to fail, and of the dump only where the netlist is accepted.
+abbrev pub IsFaultOf : Option Held → Option (List ℕ → Bool) → List ℕ → List ℕ → Part → Type 0
+IsFaultOf told shaky netlist dump parts.Netlist = ¬ IsSteady told shaky netlist
+IsFaultOf told shaky netlist dump parts.Dump = (¬ IsSteady told shaky dump) × IfSome told (IsNetlist netlist)
+
+abbrev pub IsDumpFault : Option Held → Option (List ℕ → Bool) → List ℕ → Part → Type 0
+IsDumpFault told shaky dump parts.Netlist = ⊥
+IsDumpFault told shaky dump parts.Dump = ¬ IsSteady told shaky dump
+
+-- on words that ask for a netlist and a dump
+abbrev pub IsWordsFault : List (List ℕ) → Option Held → Option (List ℕ → Bool) → Part → Type 0
+IsWordsFault words told shaky part = (netlist dump : List ℕ) × Restores words netlist dump × IsFaultOf told shaky netlist dump part
+
+-- where the reply says that a part was not read, this holds of the part
+abbrev pub OnFault : (Part → Type 0) → Reply → Type 0
+OnFault P (replies.Fault part) = P part
+OnFault P _ = ⊤
+
+-- the text that is written with a status, by what the inputs tell
+abbrev pub Says : List (List ℕ) → Option Held → Option (List ℕ → Bool) → List ℕ → Status → Type 0
+Says words told shaky text statuses.ReadFault = (part : Part) × (text ≡ fault_line part) × IsWordsFault words told shaky part
+Says words told shaky text statuses.NoMemory = text ≡ no_memory_line
+Says words told shaky text statuses.WriteFault = ⊥
+Says words told shaky text status = IfSome told (λ held. Answer words held text status)

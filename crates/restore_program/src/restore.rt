@@ -4,7 +4,7 @@ ghost use Rattle.sr_model.specs.Declaration.{declared};
 ghost use Rattle.sr_outside.specs.Counts.{IsCounted};
 ghost use Rattle.sr_outside.specs.Told.{IsSteady};
 ghost use Rattle.bench_reader.specs.FirstForm.{IsFirstForm};
-ghost use Rattle.restore_program.specs.Answer.{most_bytes, OnDump, OnLits, Replies, IsFault, RestoreAnswer, DumpAnswer, unread_reply, refused_netlist_reply, refused_dump_reply};
+ghost use Rattle.restore_program.specs.Answer.{most_bytes, OnDump, OnFault, OnLits, Replies, IsDumpFault, IsFault, IsFaultOf, RestoreAnswer, DumpAnswer, unread_reply, refused_netlist_reply, refused_dump_reply};
 ghost use Rattle.restore_program.specs.FirstDump.{IsCount};
 
 use crate::dump::{DumpRefusal, FirstDump, read_first_dump};
@@ -22,6 +22,7 @@ const MOST_BYTES: u64 = 16_777_216;
 /// What is written of this netlist and this dump.
 pub fn restore_reply<I: Inputs>(alloc: Global, inputs: &mut I, netlist: &str, dump: &str) -> Reply
     ensures answer { IfSome (I.held inputs.old) (λ held. Replies (RestoreAnswer held netlist.now dump.now) result) }
+    ensures fault_of { OnFault (IsFaultOf (I.held inputs.old) (I.shaky inputs.old) netlist.now dump.now) result }
     ensures not_usage { result ≢ Reply.Usage }
     ensures fault { IsFault result → IsCounted (I.faults inputs.old) (I.faults inputs.new) }
     ensures rose { I.faults inputs.old < I.faults inputs.new → IsFault result }
@@ -43,6 +44,7 @@ pub fn restore_reply<I: Inputs>(alloc: Global, inputs: &mut I, netlist: &str, du
 fn dump_reply<I: Inputs>(alloc: Global, inputs: &mut I, s: &Statements, dump: &str) -> Reply
     requires { IsFirstForm (declared s.now) }
     ensures answer { IfSome (I.held inputs.old) (λ held. Replies (DumpAnswer held (declared s.now) dump.now) result) }
+    ensures fault_of { OnFault (IsDumpFault (I.held inputs.old) (I.shaky inputs.old) dump.now) result }
     ensures not_usage { result ≢ Reply.Usage }
     ensures fault { IsFault result → IsCounted (I.faults inputs.old) (I.faults inputs.new) }
     ensures rose { I.faults inputs.old < I.faults inputs.new → IsFault result }

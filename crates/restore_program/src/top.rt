@@ -5,7 +5,7 @@ ghost use Rattle.std.specs.Io.KnownBytes.{append_known};
 ghost use Rattle.sr_outside.specs.Counts.{IsCounted};
 ghost use Rattle.sr_outside.specs.Told.{IsFull};
 ghost use Rattle.restore_program.specs.Words.{IsRestore};
-ghost use Rattle.restore_program.specs.Answer.{AreSteady, IsFault, ReplyAnswer, Says};
+ghost use Rattle.restore_program.specs.Answer.{AreSteady, IsFault, IsWordsFault, OnFault, ReplyAnswer, Says};
 ghost use Rattle.restore_program.specs.Reply.{clash_line};
 ghost use Rattle.restore_program.specs.Sound.{Finishes, IsAccepted, IsSoundTable, NoneMatches};
 
@@ -27,8 +27,9 @@ pub fn run<R: Threads + Sync, I: Inputs, K: Sink>(
     out: &mut K,
 ) -> Status
     // Unless writing fails, a whole text is appended, and where the inputs tell what they hold, it and the status are the answer.
+    // What says that an input was not read says which.
     ensures answer { result ≢ Status.WriteFault → (text : List ℕ) × (K.written out.new ≡ append_known (K.written out.old) text)
-        × Says (map string_bytes words.now) (I.held inputs.old) text result }
+        × Says (map string_bytes words.now) (I.held inputs.old) (I.shaky inputs.old) text result }
 
     // Each bit of a table is that of every execution that matches the dump, and a contradiction is written only where none matches.
     ensures sound { result ≡ Status.Done → (text : List ℕ) × (K.written out.new ≡ append_known (K.written out.old) text)
@@ -63,6 +64,7 @@ pub fn run<R: Threads + Sync, I: Inputs, K: Sink>(
 /// What is written of these words.
 fn reply_to<I: Inputs>(alloc: Global, words: &[String], inputs: &mut I) -> Reply
     ensures answer { ReplyAnswer (map string_bytes words.now) (I.held inputs.old) result }
+    ensures fault_of { OnFault (IsWordsFault (map string_bytes words.now) (I.held inputs.old) (I.shaky inputs.old)) result }
     ensures usage { result ≡ Reply.Usage → ¬ IsRestore (map string_bytes words.now) }
     ensures refused { ¬ IsRestore (map string_bytes words.now) → (result ≡ Reply.Usage) × (inputs.new ≡ inputs.old) }
     ensures fault { IsFault result → IsCounted (I.faults inputs.old) (I.faults inputs.new) }

@@ -1,11 +1,24 @@
-use Rattle.std.proofs.Common.{◌≡◌, List, ℕ, map, sym, ap, subst, ◌∙◌}
+use Rattle.std.proofs.Common.{◌≡◌, List, ℕ, Option, map, sym, ap, subst, ◌∙◌}
 use Rattle.std.specs.Prelude.{IfSome}
 use Rattle.std.specs.String.{string_bytes}
 use Rattle.std.specs.Io.KnownBytes.{append_known}
 use Rattle.restore_program.specs.Reply.{clash_line, text_of}
 use Rattle.restore_program.specs.Sound.{Finishes, IsAccepted, NoneMatches}
+use Rattle.sr_outside.specs.Told.{Held}
+use Rattle.restore_program.specs.Answer.{Says}
+use Rattle.restore_program.proofs.Answering.{says}
 use Rattle.restore_program.proofs.Sounding.{sound_reply, clash_reply, appended_is, finishes}
 use Rattle.restore_program.proofs.top.run.Goals as goal
+
+pub returns-in-Ok-clause-answer : goal.returns-in-Ok-clause-answer
+returns-in-Ok-clause-answer g c _ =
+    let words : List (List ℕ) = map string_bytes c.args.words.now in
+    let told : Option Held = g.I.Inputs.held c.args.inputs.now in (
+      text_of c.reply_to-reply.result,
+      c.in-Ok.ensures.written,
+      subst (Says words told (g.I.Inputs.shaky c.args.inputs.now) (text_of c.reply_to-reply.result)) (sym c.reply_status.ensures)
+          (says words told (g.I.Inputs.shaky c.args.inputs.now) c.reply_to-reply.result c.reply_to-reply.ensures.answer c.reply_to-reply.ensures.fault_of),
+    )
 
 pub returns-in-Ok-clause-sound : goal.returns-in-Ok-clause-sound
 returns-in-Ok-clause-sound g c e = (
