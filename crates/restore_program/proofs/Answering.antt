@@ -1,5 +1,5 @@
 -- How the parts of an answer come together.
-use Rattle.std.proofs.Common.{◌≡◌, ◌≢◌, ℕ, ◌≤◌, ◌<◌, ◌&&◌, ◌↔◌, Bool, true, false, List, length, Option, Some, None, IsTrue, sym, refl, subst, ap, ◌∙◌}
+use Rattle.std.proofs.Common.{◌≡◌, ℕ, ◌≤◌, ◌<◌, ◌&&◌, ◌↔◌, Bool, true, false, List, length, Option, Some, None, IsTrue, sym, refl, subst, ap, ◌∙◌}
 use Rattle.std.specs.Prelude.{IfSome, IsNone, IsErrOf, Result, Err, Contains}
 use Rattle.sr_model.specs.Room.{WithRoom}
 use Rattle.std.specs.List.{list_any}
@@ -100,16 +100,6 @@ on_dump ds bytes cycles rows lits (replies.TooLong part) short spells each h pla
 on_dump ds bytes cycles rows lits (replies.Later part line) short spells each h plain = absurd h
 on_dump ds bytes cycles rows lits (replies.Fault part) short spells each h plain = absurd h
 
--- nothing that is written of literals says that an input was not read
-pub lits_no_fault : (ds : List Declaration) (cycles : ℕ) (lits : List Lit) (reply : Reply) → OnLits ds cycles lits reply → IsFault reply → ⊥
-lits_no_fault ds cycles lits (replies.Fault part) h fault = h
-lits_no_fault ds cycles lits replies.Usage h fault = fault
-lits_no_fault ds cycles lits (replies.TooLong part) h fault = fault
-lits_no_fault ds cycles lits (replies.Later part line) h fault = fault
-lits_no_fault ds cycles lits replies.Clash h fault = fault
-lits_no_fault ds cycles lits replies.NoMemory h fault = fault
-lits_no_fault ds cycles lits (replies.Table text) h fault = fault
-
 -- ---- from the bytes that are held
 
 abbrev whole : ReadRefusal → Result (WithRoom ℕ) ReadRefusal
@@ -140,12 +130,6 @@ unread_netlist (Some held) name dump refusals.TooLong long missing = λ _. at (h
   at None e = let no : whole refusals.TooLong ≡ whole refusals.Fault = missing (subst IsNone (sym e) refl) in absurd cc
   at (Some bytes) e = (bytes, e, netlist_too_long (subst (λ o. IfSome o (λ b. most_bytes < length b)) e (long refl)))
 
--- a dump that was read
-pub read_dump : (told : Option Held) (ds : List Declaration) (name bytes : List ℕ) (reply : Reply) → IfSome told (λ held. held name ≡ Some bytes) → Replies (OnDump ds bytes) reply
-    → IfSome told (λ held. Replies (DumpAnswer held ds name) reply)
-read_dump None ds name bytes reply is answer = tt
-read_dump (Some held) ds name bytes reply is answer = λ plain. (bytes, is, answer plain)
-
 -- a netlist that was read
 pub read_netlist : (told : Option Held) (ds : List Declaration) (name dump bytes : List ℕ) (reply : Reply) → IfSome told (λ held. held name ≡ Some bytes) → length bytes ≤ most_bytes → Spells bytes ds
     → IfSome told (λ held. Replies (DumpAnswer held ds dump) reply) → IfSome told (λ held. Replies (RestoreAnswer held name dump) reply)
@@ -165,24 +149,6 @@ pub broken_dump : (ds : List Declaration) (bytes : List ℕ) (refusal : DumpRefu
     → Replies (OnDump ds bytes) (refused_dump_reply refusal)
 broken_dump ds bytes (dumps.Later line) short broken = λ _. breaks line short broken
 broken_dump ds bytes dumps.NoMemory short broken = λ plain. absurd plain
-
--- ---- nothing that is written of a netlist or a dump says that the words are refused
-
-pub unread_asked : (part : Part) (refusal : ReadRefusal) → unread_reply part refusal ≢ replies.Usage
-unread_asked part refusals.Fault e = absurd cc
-unread_asked part refusals.TooLong e = absurd cc
-unread_asked part refusals.NoMemory e = absurd cc
-
-pub netlist_asked : (refusal : BenchRefusal) → refused_netlist_reply refusal ≢ replies.Usage
-netlist_asked (bench.Later line) e = absurd cc
-netlist_asked bench.NoMemory e = absurd cc
-
-pub dump_asked : (refusal : DumpRefusal) → refused_dump_reply refusal ≢ replies.Usage
-dump_asked (dumps.Later line) e = absurd cc
-dump_asked dumps.NoMemory e = absurd cc
-
-pub lits_asked : (ds : List Declaration) (cycles : ℕ) (lits : List Lit) (reply : Reply) → OnLits ds cycles lits reply → reply ≢ replies.Usage
-lits_asked ds cycles lits reply h e = subst (OnLits ds cycles lits) e h
 
 -- ---- what the words ask for is answered
 

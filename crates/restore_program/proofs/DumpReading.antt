@@ -9,7 +9,7 @@ use Rattle.std.proofs.lemmas.List.Concat.{flat_map-append}
 use Rattle.std.proofs.lemmas.List.Elements.{All-nil, All-push, All-get_or, All-contains, Contains-push, Contains-append_left, Contains-push_cases}
 use Rattle.std.proofs.lemmas.List.Folds.{list_any-append, list_any_at, Any-from_list_any}
 use Rattle.std.proofs.lemmas.List.Quantifiers.{all_pairs_push}
-use Rattle.std.proofs.lemmas.Option.{none-some, same_Some, slice_get-get_or, slice_get_within, slice_get_past, get_or_from_slice_get}
+use Rattle.std.proofs.lemmas.Option.{none-some, same_Some, slice_get-get_or, slice_get_within, get_or_from_slice_get}
 use Rattle.std.proofs.lemmas.Slice.Eq.{bytes_eq-Decides}
 use Rattle.sr_model.specs.declared.cells.Sig.{Sig}
 use Rattle.sr_model.specs.declared.cells.Lit.{Lit}
@@ -112,15 +112,6 @@ slice_get_last : {X : Type 0} (xs : List X) (x : X) → slice_get (xs ++ x ∷ [
 slice_get_last xs x =
     let within : length xs < length (xs ++ x ∷ []) = omega (arith, length-append xs (x ∷ [])) in
     slice_get-get_or (xs ++ x ∷ []) (length xs) x within ∙ ap Some (get_or_push xs x x (length xs) refl)
-
--- the literals of no character
-pub AddsRow-none : (before : List Lit) (sig : Sig) → AddsRow before (row_of sig []) before
-AddsRow-none before sig l =
-    let there : Contains before l ⊎ IsTrue (dump_has (row_of sig [] ∷ []) l) → Contains before l = λ h. elim h [
-      | inl c ↦ c
-      | inr none ↦ absurd (none-some (Some l.bit) (sym (slice_get_past {X = Option Bool} [] l.cell.cycle (omega arith)) ∙ (row_knows (row_of sig []) l none).1))
-    ] in
-    ((λ h. inl h), there)
 
 row_front : (sig : Sig) (front : List ℕ) (c : ℕ) (l : Lit) → IsTrue (dump_has (row_of sig front ∷ []) l) → IsTrue (dump_has (row_of sig (front ++ c ∷ []) ∷ []) l)
 row_front sig front c l h =

@@ -204,7 +204,3 @@ finishes P words (Some held) (replies.TooLong parts.Netlist) answer k = finishes
 finishes P words (Some held) (replies.TooLong parts.Dump) answer k = finishes_held P words held (too_long_line parts.Dump) statuses.Dump (answer tt) k
 finishes P words (Some held) (replies.Later parts.Netlist line) answer k = finishes_held P words held (later_line parts.Netlist line) statuses.Netlist (answer tt) k
 finishes P words (Some held) (replies.Later parts.Dump line) answer k = finishes_held P words held (later_line parts.Dump line) statuses.Dump (answer tt) k
-
-pub finishes_unwritten : (P : Type 0) (words : List (List ℕ)) (told : Option Held) → IfSome told (λ held. IsAccepted words held → Finishes P statuses.WriteFault)
-finishes_unwritten P words None = tt
-finishes_unwritten P words (Some held) = λ _. tt

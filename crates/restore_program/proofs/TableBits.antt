@@ -3,18 +3,17 @@ use Rattle.std.proofs.Common.{ℕ, suc, ◌+◌, ◌*◌, ◌/◌, ◌%◌, ◌-
 use Rattle.std.specs.Prelude.{slice_range}
 use Rattle.std.specs.List.{Contains}
 use Rattle.std.proofs.lemmas.Bool.{cases_Bool, eqb-true, eqb-false}
-use Rattle.std.proofs.lemmas.List.{length-take-le, length-drop, get_or-take, get_or-drop, length-replicate, get_or-replicate}
+use Rattle.std.proofs.lemmas.List.{length-take-le, length-drop, get_or-take, get_or-drop}
 use Rattle.std.proofs.lemmas.List.FromFn.{fill_by_all}
 use Rattle.std.proofs.lemmas.List.Elements.{Contains-append_left, Contains-push, Contains-push_cases}
 use Rattle.std.proofs.lemmas.Nat.{div-mul-add, mod-mul-add}
 use Rattle.std.proofs.Math.Nat.{mul-le-mul_right}
-use Rattle.std.proofs.Math.ListN.{length-set, replicate}
+use Rattle.std.proofs.Math.ListN.{length-set}
 use Rattle.sr_model.specs.declared.cells.Sig.{Sig}
 use Rattle.sr_model.specs.declared.cells.Cell.{Cell}
 use Rattle.sr_model.specs.declared.cells.Lit.{Lit}
 use Rattle.sr_model.specs.Netlist.{cell_at}
 use Rattle.sr_model.specs.Closure.{HasBoth, SameLits, lit, passing}
-use Rattle.sr_model.proofs.Members.{not_in_nil}
 use Rattle.restore_program.specs.TableBits.{IsBitOf, AreBits, row_there}
 use Rattle.restore_program.specs.TableText.{known_bit, known_row}
 
@@ -46,15 +45,6 @@ other_cell lits l c (Some bit) other was = Contains-append_left lits (l ∷ []) 
 
 sig_of_cell : (l : Lit) (sig cycle : ℕ) → l.cell ≡ cell_at cycle (record { 0 = sig }) → (l.cell.sig.0 ≡ sig) × (l.cell.cycle ≡ cycle)
 sig_of_cell l sig cycle e = (ap (λ (c : Cell). c.sig.0) e, ap (λ (c : Cell). c.cycle) e)
-
-pub AreBits-none : (signals cycles : ℕ) (bits : List (Option Bool)) → bits ≡ replicate (signals * cycles) None → AreBits signals cycles [] bits
-AreBits-none signals cycles bits e = record {
-  size = ap length e ∙ length-replicate (signals * cycles) None;
-  each = λ sig cycle below within.
-      let room : sig * cycles + cycle < signals * cycles = grid_room cycles signals sig cycle within below in
-      let there : get_or bits (sig * cycles + cycle) None ≡ None = ap (λ xs. get_or xs (sig * cycles + cycle) None) e ∙ get_or-replicate (signals * cycles) (sig * cycles + cycle) None None room in
-      subst (IsBitOf [] (cell_at cycle (record { 0 = sig }))) (sym there) (λ bit h. not_in_nil (lit (cell_at cycle (record { 0 = sig })) bit) h);
-}
 
 -- a literal of no cell there
 pub AreBits-past : (signals cycles : ℕ) (lits : List Lit) (bits : List (Option Bool)) (l : Lit) → (l.cell.sig.0 < signals → l.cell.cycle < cycles → ⊥) → AreBits signals cycles lits bits → AreBits signals cycles (lits ++ l ∷ []) bits
