@@ -3,7 +3,8 @@ ghost use Rattle.std.specs.Prelude.{◌≡◌, ◌≢◌, ◌<◌, ◌≤◌, �
 ghost use Rattle.std.specs.String.{string_bytes};
 ghost use Rattle.std.specs.Io.KnownBytes.{append_known};
 ghost use Rattle.sr_outside.specs.Counts.{IsCounted};
-ghost use Rattle.sr_outside.specs.Told.{IsFull};
+ghost use Rattle.sr_outside.specs.Told.{AppendsPart, IsFull};
+ghost use Rattle.restore_program.specs.declared.status.Status.{Status as AnyStatus};
 ghost use Rattle.restore_program.specs.Words.{IsRestore};
 ghost use Rattle.restore_program.specs.Answer.{AreSteady, IsFault, IsWordsFault, OnFault, ReplyAnswer, Says};
 ghost use Rattle.restore_program.specs.Reply.{clash_line};
@@ -49,8 +50,12 @@ pub fn run<R: Threads + Sync, I: Inputs, K: Sink>(
     ensures read_fault { result ≡ Status.ReadFault → IsCounted (I.faults inputs.old) (I.faults inputs.new) }
     ensures read_rose { I.faults inputs.old < I.faults inputs.new → (result ≡ Status.ReadFault) ⊎ (result ≡ Status.WriteFault) }
     ensures steady { AreSteady (I.held inputs.old) (I.shaky inputs.old) (map string_bytes words.now) → I.faults inputs.new ≡ I.faults inputs.old }
+
+    // A write fault is answered only where one was counted. Then a proper front of the text was appended.
     ensures write_fault { result ≡ Status.WriteFault → IsCounted (K.faults out.old) (K.faults out.new) }
     ensures write_rose { K.faults out.old < K.faults out.new → result ≡ Status.WriteFault }
+    ensures part { result ≡ Status.WriteFault → (text : List ℕ) × (status : AnyStatus) × AppendsPart (K.written out.old) (K.written out.new) text
+        × Says (map string_bytes words.now) (I.held inputs.old) (I.shaky inputs.old) text status }
     ensures full { result ≡ Status.WriteFault → IsFull (K.written out.new) (K.room out.new) }
 {
     let _ = rt;

@@ -2,7 +2,7 @@ use Rattle.std.proofs.Common.{◌≡◌, List, ℕ, Option, map, sym, ap, subst,
 use Rattle.std.specs.Prelude.{IfSome}
 use Rattle.std.specs.String.{string_bytes}
 use Rattle.std.specs.Io.KnownBytes.{append_known}
-use Rattle.restore_program.specs.Reply.{clash_line, text_of}
+use Rattle.restore_program.specs.Reply.{clash_line, status_of, text_of}
 use Rattle.restore_program.specs.Sound.{Finishes, IsAccepted, NoneMatches}
 use Rattle.sr_outside.specs.Told.{Held}
 use Rattle.restore_program.specs.Answer.{Says}
@@ -40,3 +40,11 @@ returns-in-Ok-clause-accepted g c =
     (sym c.reply_status.ensures)
     (finishes (g.K.Sink.written c.write_reply.new.out ≡ append_known (g.K.Sink.written c.args.out.now) clash_line) words (g.I.Inputs.held c.args.inputs.now) c.reply_to-reply.result c.reply_to-reply.ensures.answer
     (λ line. c.in-Ok.ensures.written ∙ ap (append_known (g.K.Sink.written c.args.out.now)) line))
+
+pub returns-clause-part : goal.returns-clause-part
+returns-clause-part g c _ = (
+  text_of c.reply_to-reply.result,
+  status_of c.reply_to-reply.result,
+  c.in-Err.ensures.part,
+  says (map string_bytes c.args.words.now) (g.I.Inputs.held c.args.inputs.now) (g.I.Inputs.shaky c.args.inputs.now) c.reply_to-reply.result c.reply_to-reply.ensures.answer c.reply_to-reply.ensures.fault_of,
+)
