@@ -1,4 +1,12 @@
-pub mod Scanning
-pub mod FirstFormLaws
-pub mod FirstFormNames
-pub mod Reading
+pub mod BenchLaws
+pub mod Forms
+pub mod Lines
+pub mod Pins
+pub mod PrintedTokens
+pub mod PrintedLines
+pub mod PrintedStatements
+pub mod Printing
+pub mod ReadBack
+pub mod SignalNames
+pub mod Statements
+pub mod Tokens

@@ -1,3 +1,6 @@
-pub mod FirstForm
+pub mod Found
+pub mod Grammar
+pub mod Laws
 pub mod Refusal
-pub mod Scan
+pub mod Printed
+pub mod PrintLaws

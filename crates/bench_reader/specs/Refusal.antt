@@ -1,9 +1,28 @@
 -- What is said of a refusal.
-use Rattle.std.specs.Prelude.{ℕ}
+use Rattle.std.specs.Prelude.{ℕ, ◌≡◌, List}
 use Rattle.bench_reader.specs.declared.reader.BenchRefusal.{BenchRefusal}
-use Rattle.bench_reader.specs.declared.reader.BenchRefusal.TheVariants.{Later, NoMemory}
+use Rattle.bench_reader.specs.declared.reader.BenchRefusal.TheVariants.{Syntax, NameLong, UnknownKind, WrongPins, NoMemory}
+use Rattle.bench_reader.specs.Grammar.{Form, IsKnownKind, HasRightPins, IsSyntaxFault, IsNameFault, IsKindFault, IsPinFault, FirstFault}
 
--- a fact of the line, where a line is refused
-abbrev pub IfLater : (ℕ → Type 0) → BenchRefusal → Type 0
-IfLater P (Later line) = P line
-IfLater P NoMemory = Unit {0}
+-- the text, which stands in this line, is bad in this way
+abbrev pub IsLineRefusal : List ℕ → ℕ → BenchRefusal → Type 0
+IsLineRefusal text number (Syntax line) = (line ≡ number) × IsSyntaxFault text
+IsLineRefusal text number (NameLong line) = (line ≡ number) × IsNameFault text
+IsLineRefusal text number (UnknownKind line) = (line ≡ number) × IsKindFault text
+IsLineRefusal text number (WrongPins line) = (line ≡ number) × IsPinFault text
+IsLineRefusal text number NoMemory = Unit {0}
+
+-- the first bad line of the text is bad in this way
+abbrev pub IsRefusal : List ℕ → BenchRefusal → Type 0
+IsRefusal text (Syntax line) = FirstFault IsSyntaxFault text line
+IsRefusal text (NameLong line) = FirstFault IsNameFault text line
+IsRefusal text (UnknownKind line) = FirstFault IsKindFault text line
+IsRefusal text (WrongPins line) = FirstFault IsPinFault text line
+IsRefusal text NoMemory = Unit {0}
+
+-- the form, which has short names, is bad in this way
+abbrev pub IsFormRefusal : Form → ℕ → BenchRefusal → Type 0
+IsFormRefusal form number (UnknownKind line) = (line ≡ number) × (¬ IsKnownKind form)
+IsFormRefusal form number (WrongPins line) = (line ≡ number) × IsKnownKind form × (¬ HasRightPins form)
+IsFormRefusal form number NoMemory = Unit {0}
+IsFormRefusal form number _ = ⊥

@@ -1,9 +1,12 @@
-//! Reads a netlist's text into statements.
+//! Reads a netlist's text into statements, and prints a netlist.
 #![tactic(auto)]
 
+mod form;
+mod kinds;
+mod print;
 mod reader;
-mod scan;
 #[cfg(test)]
 mod tests;
 
-pub use reader::{BenchRefusal, find_driver, first_form_laws, read_bench, signal_laws};
+pub use print::{print_bench, print_laws};
+pub use reader::{BenchRefusal, bench_laws, read_bench};

@@ -1,25 +1,39 @@
-//! The first form of a netlist's text.
-ghost use Rattle.std.specs.Prelude.{◌≡◌, ◌<◌, ◌^◌, List, length, map, option_map, IfOk, IfErr, Contains};
-ghost use Rattle.std.specs.List.{enumerate_from, list_any, position};
-ghost use Rattle.std.specs.Option.{SomeIff};
-ghost use Rattle.bench_reader.specs.Refusal.{IfLater};
-ghost use Rattle.sr_model.specs.Declaration.{declared, declarations_of};
-ghost use Rattle.bench_reader.specs.FirstForm.{Spells, BreaksAt, HasOneReading, BreaksOnce, IsReadOrBreaks, NamesHavePlaces, PinsComeFirst, HasNoOutput, DriversComeFirst, sig_of, driven_name};
-ghost use Rattle.bench_reader.specs.Scan.{declared_by, drives, is_driven, names_fit, next_at};
+//! The whole grammar of a netlist's text.
+ghost use Rattle.std.specs.Prelude.{◌≡◌, ◌≢◌, [], map, All, IfOk, IfErr};
+ghost use Rattle.std.specs.List.{list_all};
+ghost use Rattle.sr_model.specs.Declaration.{declared, declarations_of, declaration_of};
+ghost use Rattle.sr_model.specs.Room.{texts};
+ghost use Rattle.netlist.specs.Numbering.{IsStatement};
+ghost use Rattle.bench_reader.specs.Grammar.{Spells, States, HasRightPins, Declares, is_short, signal_names};
+ghost use Rattle.bench_reader.specs.Refusal.{IsRefusal, IsLineRefusal, IsFormRefusal};
+ghost use Rattle.bench_reader.specs.Laws.{HasOneReading, IsRefusedOnce, IsReadOrRefused};
+ghost use Rattle.bench_reader.specs.Found.{form_with};
 
-use crate::scan::{Line, line_at};
-use sr_model::{NoMemory, Numbered, Sequence, Sig, Statement, Statements};
-use std::alloc::Global;
+use crate::form::{Form, read_form};
+use crate::kinds::{is_pin_count, kind_named};
+use bstr::ByteSlice;
+use sr_model::{Bytes, Names, NoMemory, Numbered, Sequence, Statement, Statements};
+use sr_text::cut;
+use std::alloc::{AllocError, Global};
 use thiserror::Error;
 
-const MAX_LINES: usize = 4096;
+const MAX_NAME_BYTES: usize = 255;
 
-/// Why a netlist's text is refused.
+/// Why a netlist's text is refused: its first line that is not in the grammar. Lines count from 1.
 #[derive(Clone, Copy, Debug, PartialEq, Eq, Error)]
 pub enum BenchRefusal {
-    /// The first line that is not of the first form. Lines count from 1.
-    #[error("line {line}: not built yet")]
-    Later { line: u64 },
+    /// It has none of the three forms.
+    #[error("line {line}: syntax")]
+    Syntax { line: u64 },
+    /// A signal's name has more than 255 bytes.
+    #[error("line {line}: name too long")]
+    NameLong { line: u64 },
+    /// Its word is that of no kind.
+    #[error("line {line}: unknown kind")]
+    UnknownKind { line: u64 },
+    /// Its kind may not have so many pins.
+    #[error("line {line}: wrong number of pins")]
+    WrongPins { line: u64 },
     /// Memory was refused.
     #[error("no memory")]
     NoMemory,
@@ -35,102 +49,124 @@ impl From<NoMemory> for BenchRefusal {
     }
 }
 
-/// The statements of a text of the first form: each line is `INPUT(name)`, `name = NOT(name)`, `name = AND(name, name)` or `name = DFF(name)`
-/// and a line feed, its pins are driven by earlier lines, no name is driven twice, and there are 4,096 lines at most.
+/// The statements of a text, in the order of its lines.
 ///
-/// A name has 1 to 255 bytes from 33 to 126, and none of `( ) , = #`. The bytes are read once, and each name of a line is sought in the lines before it.
+/// A line is cut at its first `#`, and has one of the forms `INPUT(name)`, `OUTPUT(name)` and `name = KIND(name, name)`, with tabs, spaces and
+/// carriage returns round each token. An empty line states nothing. INPUT, OUTPUT and KIND stand in any case; BUF and BUFF are one kind.
+/// A name has 1 to 255 bytes from 33 to 126, and none of `( ) , = #`. NOT, BUF, BUFF and DFF have one pin, other kinds 1 to 1,024.
+///
+/// Each byte is read once, and each name takes one allocation.
 pub fn read_bench(alloc: Global, bytes: &[u8]) -> Result<Statements, BenchRefusal>
-    ensures statements { IfOk result (λ s. Spells bytes.now (declared s)) }
-    ensures lines { IfOk result (λ s. declarations_of s ≡ enumerate_from 1 (declared s)) }
-    ensures later { IfErr result (IfLater (BreaksAt bytes.now)) }
+    ensures statements { IfOk result (λ s. Spells bytes.now (declarations_of s)) }
+    ensures each { IfOk result (λ s. All IsStatement (declared s)) }
+    ensures refusal { IfErr result (IsRefusal bytes.now) }
 {
     let mut statements = Sequence::new(alloc);
-    let mut rest = bytes;
-    while !rest.is_empty() {
-        let line = statements.len() as u64 + 1;
-        let Some((stated, after)) = next_at(&statements, rest) else {
-            return Err(BenchRefusal::Later { line });
-        };
-        let statement = stated.to_statement(alloc)?;
-        statements.push(Numbered { line, statement })?;
-        rest = after;
+    let mut pins = Vec::new(alloc);
+    let mut lines = bytes.lines();
+    let mut line: u64 = 0;
+    while let Some(whole) = lines.next() {
+        line += 1;
+        let text = cut(whole);
+        if !text.is_empty() {
+            let statement = read_statement(alloc, text, line, &mut pins)?;
+            statements.push(Numbered { line, statement })?;
+        }
     }
     Ok(statements)
 }
 
-/// Each text has one reading, or one line that is the first to break the form, and never both.
-pub fn first_form_laws()
+/// Each text has one reading, or is refused in one way, and never both.
+pub fn bench_laws()
     ensures one_reading { HasOneReading }
-    ensures one_break { BreaksOnce }
-    ensures not_both { IsReadOrBreaks }
+    ensures one_refusal { IsRefusedOnce }
+    ensures not_both { IsReadOrRefused }
 {}
 
-/// Lines and signals go together: line i drives the name of signal i, from signals below it.
-pub fn signal_laws()
-    ensures own_place { NamesHavePlaces }
-    ensures pins_first { PinsComeFirst }
-    ensures no_output { HasNoOutput }
-    ensures drivers_first { DriversComeFirst }
-{}
-
-/// The signal that a name stands for: the place, from 0, of the line that drives it. It looks through the statements from the first on.
-pub fn find_driver(s: &Statements, name: &[u8]) -> Option<Sig>
-    requires { length s.now.items < 2 ^ 32 }
-    ensures { SomeIff result (Contains (map driven_name (declared s.now)) name.now) (sig_of (declared s.now) name.now) }
+/// The statement of a cut line that is not empty. The pins are room to read into.
+fn read_statement<'text>(
+    alloc: Global,
+    text: &'text [u8],
+    line: u64,
+    pins: &mut Vec<&'text [u8]>,
+) -> Result<Statement, BenchRefusal>
+    requires { text.now ≢ [] }
+    ensures statement { IfOk result (λ s. States text.now (declaration_of s)) }
+    ensures refusal { IfErr result (IsLineRefusal text.now line) }
 {
-    let place = driver_place(s, name)?;
-    Some(Sig(place as u32))
-}
-
-/// The place of the first statement that drives the name.
-fn driver_place(s: &Statements, name: &[u8]) -> Option<usize>
-    ensures { result ≡ position (drives name.now) s.now.items }
-{
-    s.as_slice().iter().position(|stated| drives(stated, name))
-}
-
-fn drives(stated: &Numbered, name: &[u8]) -> bool
-    ensures { result ≡ drives name.now stated.now }
-{
-    let driven = match &stated.statement {
-        Statement::Input(name) | Statement::OutputOf(name) => name,
-        Statement::Drive { target, .. } => target,
+    let Some(form) = read_form(text, pins)? else {
+        return Err(BenchRefusal::Syntax { line });
     };
-    driven.as_slice() == name
+    if !has_short_names(&form, pins.as_slice()) {
+        return Err(BenchRefusal::NameLong { line });
+    }
+    to_statement(alloc, &form, pins.as_slice(), line)
 }
 
-/// Reads the next line, which has to fit the statements before it.
-#[tactic(auto, unfolding(crate::specs::Scan::next_at))]
-fn next_at<'text>(read: &Statements, text: &'text [u8]) -> Option<(Line<'text>, &'text [u8])>
-    ensures { option_map (λ x. (declared_by x.0, x.1.now)) result ≡ next_at read.now.items text.now }
+/// Whether no signal's name is too long.
+fn has_short_names(form: &Form, pins: &[&[u8]]) -> bool
+    ensures { result ≡ list_all is_short (signal_names (form_with pins.now form.now)) }
 {
-    if read.len() >= MAX_LINES {
-        return None;
-    }
-    let (line, rest) = line_at(text)?;
-    if !names_fit(read, &line) {
-        return None;
-    }
-    Some((line, rest))
-}
-
-/// Whether the line's target is new, and its pins are driven.
-fn names_fit(read: &Statements, line: &Line) -> bool
-    ensures { result ≡ names_fit (is_driven read.now.items) (declared_by line.now) }
-{
-    match *line {
-        Line::Input(name) => !is_driven(read, name),
-        Line::OnePin { target, pin, .. } => !is_driven(read, target) && is_driven(read, pin),
-        Line::TwoPins {
-            target,
-            left,
-            right,
-        } => { !is_driven(read, target) && is_driven(read, left) && is_driven(read, right) }
+    match *form {
+        Form::Input(name) | Form::Output(name) => is_short(name),
+        Form::Driver { target, .. } => is_short(target) && are_short(pins),
     }
 }
 
-fn is_driven(read: &Statements, name: &[u8]) -> bool
-    ensures { result ≡ is_driven read.now.items name.now }
+fn are_short(names: &[&[u8]]) -> bool
+    ensures { result ≡ list_all (λ name. is_short name.now) names.now }
 {
-    read.as_slice().iter().any(|stated| drives(stated, name))
+    names.iter().all(|name| is_short(name))
+}
+
+fn is_short(name: &[u8]) -> bool
+    ensures { result ≡ is_short name.now }
+{
+    name.len() <= MAX_NAME_BYTES
+}
+
+/// The statement of a form with short names, with names of its own.
+fn to_statement(
+    alloc: Global,
+    form: &Form,
+    pins: &[&[u8]],
+    line: u64,
+) -> Result<Statement, BenchRefusal>
+    ensures statement { IfOk result (λ s. HasRightPins (form_with pins.now form.now) × Declares (form_with pins.now form.now) (declaration_of s)) }
+    ensures refusal { IfErr result (IsFormRefusal (form_with pins.now form.now) line) }
+{
+    match *form {
+        Form::Input(name) => Ok(Statement::Input(to_bytes(alloc, name)?)),
+        Form::Output(name) => Ok(Statement::OutputOf(to_bytes(alloc, name)?)),
+        Form::Driver { target, word } => {
+            let Some(kind) = kind_named(word) else {
+                return Err(BenchRefusal::UnknownKind { line });
+            };
+            if !is_pin_count(kind, pins.len()) {
+                return Err(BenchRefusal::WrongPins { line });
+            }
+            let target = to_bytes(alloc, target)?;
+            let pins = to_names(alloc, pins)?;
+            Ok(Statement::Drive { target, kind, pins })
+        }
+    }
+}
+
+fn to_bytes(alloc: Global, name: &[u8]) -> Result<Bytes, NoMemory>
+    ensures { IfOk result (λ bytes. bytes.items ≡ name.now) }
+{
+    match Vec::from_slice(alloc, name) {
+        Ok(bytes) => Ok(Sequence::from_vec(bytes)),
+        Err(AllocError) => Err(NoMemory),
+    }
+}
+
+fn to_names(alloc: Global, names: &[&[u8]]) -> Result<Names, NoMemory>
+    ensures { IfOk result (λ copies. texts copies ≡ map (λ name. name.now) names.now) }
+{
+    let mut copies = Sequence::with_room(alloc, names.len())?;
+    for name in names {
+        copies.push(to_bytes(alloc, name)?)?;
+    }
+    Ok(copies)
 }

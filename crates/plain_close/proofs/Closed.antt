@@ -3,13 +3,12 @@ use Rattle.std.proofs.Common.{◌≡◌, ℕ, ◌↔◌, List, map, false, IsTru
 use Rattle.std.specs.List.{Contains}
 use Rattle.sr_model.specs.declared.cells.Lit.{Lit}
 use Rattle.sr_model.specs.declared.cells.Cell.{Cell}
-use Rattle.sr_model.specs.Declaration.{Declaration}
-use Rattle.sr_model.specs.Netlist.{Unrolled}
+use Rattle.sr_model.specs.Netlist.{Driver}
 use Rattle.sr_model.specs.Closure.{LitSet, Closure, HasBoth, IsWithin, SameLits}
 use Rattle.sr_model.proofs.ClosureLaws.{monotone}
-use Rattle.bench_reader.specs.FirstForm.{drivers_of, unrolled_over}
 use Rattle.plain_close.specs.declared.instances.Gate.{Gate}
 use Rattle.plain_close.specs.Circuit.{driver_of, unrolled}
+use Rattle.plain_close.specs.Simple.{unrolled_over}
 use Rattle.plain_close.specs.Table.{Table, has, known_lits, SameSize, AddsAll}
 
 -- an empty table to which a list was added has the literals of the list
@@ -19,16 +18,15 @@ listed none full base empty adds = (
   λ l given. (adds l).1 (inr given),
 )
 
-pub closed_base : (ds : List Declaration) (all : List Gate) (cycles : ℕ) (none full done : Table) (base : List Lit) → map driver_of all ≡ drivers_of ds → none.cycles ≡ cycles
+pub closed_base : (drivers : List Driver) (all : List Gate) (cycles : ℕ) (none full done : Table) (base : List Lit) → map driver_of all ≡ drivers → none.cycles ≡ cycles
     → ((l : Lit) → has none l ≡ false) → SameSize none full → AddsAll none full base → SameLits (known_lits done) (Closure (unrolled all full.cycles) (known_lits full))
-    → SameLits (known_lits done) (Closure (unrolled_over ds cycles) (Contains base))
-closed_base ds all cycles none full done base gates size empty same adds closed =
+    → SameLits (known_lits done) (Closure (unrolled_over drivers cycles) (Contains base))
+closed_base drivers all cycles none full done base gates size empty same adds closed =
     let first : SameLits (known_lits full) (Contains base) = listed none full base empty adds in
-    let u : unrolled all full.cycles ≡ unrolled_over ds cycles =
-    ap (λ drivers. let x : Unrolled = record { drivers = drivers; cycles = full.cycles } in x) gates ∙ ap (λ n. unrolled_over ds n) (same.1 ∙ size) in
-    let there : SameLits (known_lits done) (Closure (unrolled_over ds cycles) (known_lits full)) = subst (λ x. SameLits (known_lits done) (Closure x (known_lits full))) u closed in (
-      λ l h. monotone (unrolled_over ds cycles) (known_lits full) (Contains base) first.0 l (there.0 l h),
-      λ l h. there.1 l (monotone (unrolled_over ds cycles) (Contains base) (known_lits full) first.1 l h),
+    let u : unrolled all full.cycles ≡ unrolled_over drivers cycles = ap (λ ds. unrolled_over ds full.cycles) gates ∙ ap (unrolled_over drivers) (same.1 ∙ size) in
+    let there : SameLits (known_lits done) (Closure (unrolled_over drivers cycles) (known_lits full)) = subst (λ x. SameLits (known_lits done) (Closure x (known_lits full))) u closed in (
+      λ l h. monotone (unrolled_over drivers cycles) (known_lits full) (Contains base) first.0 l (there.0 l h),
+      λ l h. there.1 l (monotone (unrolled_over drivers cycles) (Contains base) (known_lits full) first.1 l h),
     )
 
 -- both literals of a cell are in the one set where they are in the other

@@ -1,5 +1,6 @@
 pub mod Closed
+pub mod Gates
 pub mod Growing
 pub mod Marks
-pub mod Statements
 pub mod Tied
+pub mod Working

@@ -3,6 +3,7 @@ use Rattle.std.specs.Prelude.{ℕ, ◌<◌, ◌≢◌, ⊤, List, [], ◌∷◌,
 use Rattle.sr_model.specs.declared.cells.Cell.{Cell}
 use Rattle.sr_model.specs.declared.gates.Kind.TheVariants.{And, Not, Dff}
 use Rattle.sr_model.specs.Netlist as netlist
+use Rattle.plain_close.specs.Simple.{unrolled_over}
 use Rattle.plain_close.specs.declared.instances.Gate.{Gate}
 use Rattle.plain_close.specs.declared.instances.Gate.TheVariants as gates
 use Rattle.plain_close.specs.declared.instances.Instance.{Instance}
@@ -16,23 +17,23 @@ driver_of (gates.Dff pin) = netlist.Driven Dff (pin ∷ [])
 
 -- the gates over so many cycles
 abbrev pub unrolled : List Gate → ℕ → netlist.Unrolled
-unrolled all cycles = record { drivers = map driver_of all; cycles = cycles }
+unrolled all cycles = unrolled_over (map driver_of all) cycles
 
 abbrev pub meaning_of : Instance → netlist.Instance
 meaning_of (instances.Not target pin) = record { kind = Not; target = target; pins = pin ∷ [] }
 meaning_of (instances.And target left right) = record { kind = And; target = target; pins = left ∷ right ∷ [] }
 meaning_of (instances.Dff target pin) = record { kind = Dff; target = target; pins = pin ∷ [] }
 
--- the pins of the gate at place i stand before it
-abbrev pub HasEarlierPins : ℕ → Gate → Type 0
-HasEarlierPins i gates.Input = ⊤
-HasEarlierPins i (gates.Not pin) = pin.0 < i
-HasEarlierPins i (gates.And left right) = (left.0 < i) × (right.0 < i)
-HasEarlierPins i (gates.Dff pin) = pin.0 < i
+-- the pins of the gate that drives signal s are among so many signals, and a NOT or an AND has not its target as a pin
+abbrev pub HasProperPins : ℕ → ℕ → Gate → Type 0
+HasProperPins signals s gates.Input = ⊤
+HasProperPins signals s (gates.Not pin) = (pin.0 < signals) × (pin.0 ≢ s)
+HasProperPins signals s (gates.And left right) = (left.0 < signals) × (right.0 < signals) × (left.0 ≢ s) × (right.0 ≢ s)
+HasProperPins signals s (gates.Dff pin) = pin.0 < signals
 
--- and so at each place
+-- and so for each signal
 abbrev pub IsCircuit : List Gate → Type 0
-IsCircuit all = (i : ℕ) → i < length all → HasEarlierPins i (slice_index_or all i gates.Input)
+IsCircuit all = (s : ℕ) → s < length all → HasProperPins (length all) s (slice_index_or all s gates.Input)
 
 -- the cell is of one of so many signals and cycles
 abbrev pub IsCellWithin : ℕ → ℕ → Cell → Type 0

@@ -1,41 +1,43 @@
-//! The closure of a list of literals over a netlist of the first form.
-ghost use Rattle.std.specs.Prelude.{◌≡◌, ◌≢◌, ◌<◌, ◌≤◌, ◌↔◌, ℕ, map, length, All, AllPairs, Contains, IfOk, IfSome, IfNone, IsNone, slice_get, Some};
+//! The closure of a list of literals over a simple netlist.
+ghost use Rattle.std.specs.Prelude.{◌≡◌, ◌≢◌, ◌<◌, ◌≤◌, ◌*◌, ◌↔◌, ℕ, map, length, All, AllPairs, Contains, IfOk, IfSome, IsNone, IsTrue};
 ghost use Rattle.sr_model.specs.declared.cells.Cell.{Cell as AnyCell};
 ghost use Rattle.sr_model.specs.declared.cells.Lit.{Lit as AnyLit};
-ghost use Rattle.sr_model.specs.Declaration.{declared, declaration_of};
 ghost use Rattle.sr_model.specs.Closure.{Closure, HasBoth, SameLits};
-ghost use Rattle.bench_reader.specs.FirstForm.{IsFirstForm, IsFirstKind, unrolled_over, drivers_of, driver_of as driver_in, driven_name, sig_of};
-ghost use Rattle.sr_model.specs.Netlist.{Driven};
-ghost use Rattle.sr_model.specs.Room.{texts};
+ghost use Rattle.netlist.specs.Circuit.{IsCircuit as IsNetlist};
+ghost use Rattle.netlist.specs.Wiring.{driver_at};
 ghost use Rattle.plain_close.specs.Circuit.{driver_of, IsCellWithin};
+ghost use Rattle.plain_close.specs.Simple.{IsSimple, IsSimpleDriver, unrolled_over};
 
 use crate::instances::Gate;
 use crate::known::Known;
 use crate::sweeps::close;
-use bench_reader::find_driver;
-use sr_model::{Kind, Lits, Names, NoMemory, Numbered, Sequence, Sig, Statement, Statements};
+use netlist::Netlist;
+use sr_model::{Kind, Lits, NoMemory, Sequence, Sig};
 use std::alloc::Global;
 
 /// The closure of the base over so many cycles, each literal once; None where it has both literals of some cell.
 ///
-/// The statements have the first form. It takes two bytes a cell, and time in the number of passes, each over all instances twice.
+/// It takes two bytes a cell and twelve a signal, and first eight bytes at most for each literal of the closure, and then its answer.
+/// Its time goes by the number of cells, and of readers of each literal of the closure, in any order of the signals;
+/// where it finds no memory for those eight bytes, by a number of passes, each over all instances twice.
 pub fn close_plain(
     alloc: Global,
-    s: &Statements,
+    n: &Netlist,
     cycles: u32,
     base: &Lits,
 ) -> Result<Option<Lits>, NoMemory>
-    requires first_form { IsFirstForm (declared s.now) }
-    requires cycles { (1 ≤ cycles) × (cycles ≤ 64) }
-    requires base { All (λ l. IsCellWithin (length s.now.items) cycles l.cell) base.now.items }
-    ensures closure { IfOk result (λ found. IfSome found (λ known. SameLits (Contains known.items) (Closure (unrolled_over (declared s.now) cycles) (Contains base.now.items)))) }
+    requires simple { IsSimple n.now.drivers }
+    requires cycles { (1 ≤ cycles) × (cycles ≤ 8192) }
+    requires room { length n.now.drivers * cycles ≤ 268435456 }
+    requires base { All (λ l. IsCellWithin (length n.now.drivers) cycles l.cell) base.now.items }
+    ensures closure { IfOk result (λ found. IfSome found (λ known. SameLits (Contains known.items) (Closure (unrolled_over n.now.drivers cycles) (Contains base.now.items)))) }
     ensures once { IfOk result (λ found. IfSome found (λ known. AllPairs (λ a b. a ≢ b) known.items)) }
-    ensures clash { IfOk result (λ found. IsNone found ↔ ((c : AnyCell) × HasBoth (Closure (unrolled_over (declared s.now) cycles) (Contains base.now.items)) c)) }
+    ensures clash { IfOk result (λ found. IsNone found ↔ ((c : AnyCell) × HasBoth (Closure (unrolled_over n.now.drivers cycles) (Contains base.now.items)) c)) }
 {
-    let gates = gates_of(alloc, s)?;
-    let mut known = Known::new(alloc, gates.len() as u32, cycles)?;
+    let gates = gates_of(alloc, n)?;
+    let mut known = Known::new(alloc, n.signals(), cycles)?;
     known.add_all(base.as_slice());
-    close(&mut known, gates.as_slice());
+    close(alloc, &mut known, n, gates.as_slice(), base.as_slice());
     if known.has_both() {
         Ok(None)
     } else {
@@ -43,54 +45,56 @@ pub fn close_plain(
     }
 }
 
-/// What drives each signal.
-fn gates_of(alloc: Global, s: &Statements) -> Result<Sequence<Gate>, NoMemory>
-    requires { IsFirstForm (declared s.now) }
-    ensures { IfOk result (λ gates. map driver_of gates.items ≡ drivers_of (declared s.now)) }
+/// Whether each signal is an input or driven by a NOT, an AND of two pins or a flip-flop.
+///
+/// It reads each signal once at most, and takes no memory.
+pub fn is_simple(n: &Netlist) -> bool
+    ensures { IsTrue result ↔ IsSimple n.now.drivers }
 {
-    let mut gates = Sequence::new(alloc);
-    for stated in s.as_slice() {
-        gates.push(gate_of(s, stated))?;
+    for s in 0..n.signals() {
+        if !has_simple_driver(n, Sig(s)) {
+            return false;
+        }
+    }
+    true
+}
+
+/// The same of one signal.
+fn has_simple_driver(n: &Netlist, s: Sig) -> bool
+    requires { s.0 < length n.now.drivers }
+    ensures { IsTrue result ↔ IsSimpleDriver (driver_at n.now.drivers s.0) }
+{
+    match n.kind_of(s) {
+        None | Some(Kind::Not | Kind::Dff) => true,
+        Some(Kind::And) => n.pins_of(s).len() == 2,
+        Some(_) => false,
+    }
+}
+
+/// What drives each signal.
+fn gates_of(alloc: Global, n: &Netlist) -> Result<Sequence<Gate>, NoMemory>
+    requires { IsSimple n.now.drivers }
+    ensures { IfOk result (λ gates. map driver_of gates.items ≡ n.now.drivers) }
+{
+    let mut gates = Sequence::with_room(alloc, n.signals() as usize)?;
+    for s in 0..n.signals() {
+        gates.push(gate_of(n, Sig(s)))?;
     }
     Ok(gates)
 }
 
-/// What drives the signal of one of the statements.
-fn gate_of(s: &Statements, stated: &Numbered) -> Gate
-    requires first_form { IsFirstForm (declared s.now) }
-    requires member { Contains s.now.items stated.now }
-    ensures { driver_of result ≡ driver_in (declared s.now) (declaration_of stated.now.statement) }
+/// What drives a signal.
+fn gate_of(n: &Netlist, s: Sig) -> Gate
+    requires netlist { IsNetlist n.now }
+    requires simple { IsSimple n.now.drivers }
+    requires signal { s.0 < length n.now.drivers }
+    ensures { driver_of result ≡ driver_at n.now.drivers s.0 }
 {
-    match &stated.statement {
-        Statement::Input(_) | Statement::OutputOf(_) => Gate::Input,
-        Statement::Drive { kind, pins, .. } => driving_gate(s, *kind, pins),
-    }
-}
-
-/// A gate or flip-flop with these pins.
-fn driving_gate(s: &Statements, kind: Kind, pins: &Names) -> Gate
-    requires first_form { IsFirstForm (declared s.now) }
-    requires pins { IsFirstKind kind (length pins.now.items) }
-    requires driven { All (Contains (map driven_name (declared s.now))) (texts pins.now) }
-    ensures { driver_of result ≡ Driven kind (map (sig_of (declared s.now)) (texts pins.now)) }
-{
-    match kind {
-        Kind::Not => Gate::Not(pin_of(s, pins, 0)),
-        Kind::And => Gate::And(pin_of(s, pins, 0), pin_of(s, pins, 1)),
-        Kind::Dff => Gate::Dff(pin_of(s, pins, 0)),
+    match (n.kind_of(s), n.pins_of(s)) {
+        (None, _) => Gate::Input,
+        (Some(Kind::Not), [pin]) => Gate::Not(*pin),
+        (Some(Kind::And), [left, right]) => Gate::And(*left, *right),
+        (Some(Kind::Dff), [pin]) => Gate::Dff(*pin),
         _ => unreachable!(),
-    }
-}
-
-/// The signal of pin i.
-fn pin_of(s: &Statements, pins: &Names, i: usize) -> Sig
-    requires first_form { IsFirstForm (declared s.now) }
-    requires pin { i < length pins.now.items }
-    requires driven { All (Contains (map driven_name (declared s.now))) (texts pins.now) }
-    ensures { slice_get (map (sig_of (declared s.now)) (texts pins.now)) i ≡ Some result }
-{
-    match find_driver(s, pins.get(i)) {
-        Some(sig) => sig,
-        None => unreachable!(),
     }
 }

@@ -25,14 +25,13 @@ impl Model for Known {
 
     ghost view = { λ k. record { signals = k.signals; cycles = k.cycles; marks = k.marks.items } };
 
-    ghost invariant = { λ k. (length k.marks.items ≡ 2 * (k.cycles * k.signals)) × (k.signals ≤ 4096) × (k.cycles ≤ 64) };
+    ghost invariant = { λ k. (length k.marks.items ≡ 2 * (k.cycles * k.signals)) × (k.cycles * k.signals ≤ 268435456) };
 }
 
 impl Known {
     /// No literal is known.
     pub fn new(alloc: Global, signals: u32, cycles: u32) -> Result<Known, NoMemory>
-        requires signals { signals ≤ 4096 }
-        requires cycles { cycles ≤ 64 }
+        requires { cycles * signals ≤ 268435456 }
         ensures size { IfOk result (λ k. (k.signals ≡ signals) × (k.cycles ≡ cycles)) }
         ensures none { IfOk result (λ k. (l : AnyLit) → has k l ≡ false) }
     {
@@ -49,8 +48,7 @@ impl Known {
 
     /// How many signals there are.
     pub fn signals(&self) -> u32
-        ensures signals { result ≡ self.now.signals }
-        ensures few { result ≤ 4096 }
+        ensures { result ≡ self.now.signals }
     {
         self.signals
     }
@@ -58,7 +56,7 @@ impl Known {
     /// How many cycles there are.
     pub fn cycles(&self) -> u32
         ensures cycles { result ≡ self.now.cycles }
-        ensures few { result ≤ 64 }
+        ensures cells { self.now.cycles * self.now.signals ≤ 268435456 }
     {
         self.cycles
     }
@@ -121,10 +119,9 @@ impl Known {
     }
 }
 
+/// Where a literal's mark stands.
 fn index(signals: u32, lit: Lit) -> usize
-    requires sig { lit.cell.sig.0 < signals }
-    requires signals { signals ≤ 4096 }
-    requires cycle { lit.cell.cycle < 64 }
+    requires { lit.cell.cycle * signals + lit.cell.sig.0 < 268435456 }
     ensures { result ≡ index_of signals lit }
 {
     let cell = lit.cell.cycle as usize * signals as usize + lit.cell.sig.0 as usize;
@@ -134,7 +131,7 @@ fn index(signals: u32, lit: Lit) -> usize
 /// The literal whose mark stands at a place.
 fn literal_at(signals: u32, number: usize) -> Lit
     requires signals { 0 < signals }
-    requires few { number < 2 * (64 * signals) }
+    requires few { number < 2 * 268435456 }
     ensures { result ≡ lit_at signals number }
 {
     let cell = number / 2;

@@ -1,23 +1,31 @@
 //! Passes over all instances until none forces anything new.
-ghost use Rattle.std.specs.Prelude.{◌≡◌, ◌<◌, ◌≤◌, ◌*◌, length, IsTrue, IsFalse};
+ghost use Rattle.std.specs.Prelude.{◌≡◌, ◌<◌, ◌≤◌, ◌*◌, length, All, IsTrue, IsFalse};
 ghost use Rattle.sr_model.specs.declared.cells.Place.{Place as AnyPlace};
 ghost use Rattle.sr_model.specs.Closure.{Closure, IsClosed, IsWithin, SameLits};
 ghost use Rattle.plain_close.specs.Circuit.{unrolled, IsCircuit};
-ghost use Rattle.plain_close.specs.Table.{SameSize, unmarked, known_lits};
+ghost use Rattle.plain_close.specs.Table.{IsIn, SameSize, unmarked, known_lits};
 ghost use Rattle.plain_close.specs.Sweep.{Grows, IsClosedAt, place_at, number_at};
 
-use crate::instances::{Gate, find_instance};
+use crate::instances::Gate;
 use crate::known::Known;
-use crate::rules::next_forced;
-use sr_model::{Place, Sig};
+use crate::steps::add_next;
+use crate::worklist::grow;
+use netlist::Netlist;
+use sr_model::{Lit, Place, Sig};
+use std::alloc::Global;
 
 /// Adds all that any instance forces, until nothing is added.
-pub fn close(known: &mut Known, gates: &[Gate])
+///
+/// The worklist adds what the base forces. So one pass forwards and backwards shows that all is there, unless the worklist found no memory.
+pub fn close(alloc: Global, known: &mut Known, n: &Netlist, gates: &[Gate], base: &[Lit])
     requires circuit { IsCircuit gates.now }
+    requires netlist { length n.now.drivers ≡ length gates.now }
     requires size { known.old.signals ≡ length gates.now }
+    requires base { All (IsIn known.old) base.now }
     ensures size { SameSize known.old known.new }
     ensures closed { SameLits (known_lits known.new) (Closure (unrolled gates.now known.old.cycles) (known_lits known.old)) }
 {
+    grow(alloc, known, n, gates, base);
     loop {
         sweep(known, gates, false);
         if !sweep(known, gates, true) {
@@ -70,31 +78,8 @@ fn settle(known: &mut Known, gates: &[Gate], place: Place) -> bool
     ensures same { IsFalse result → known.new ≡ known.old }
 {
     let mut added = false;
-    while add_next(known, gates, place) {
+    while add_next(known, gates, place).is_some() {
         added = true;
     }
     added
-}
-
-/// Adds one literal that the instance at a place forces and that is not known. Whether there is one.
-fn add_next(known: &mut Known, gates: &[Gate], place: Place) -> bool
-    requires circuit { IsCircuit gates.now }
-    requires size { known.old.signals ≡ length gates.now }
-    requires target { place.target.0 < known.old.signals }
-    requires cycle { place.cycle < known.old.cycles }
-    ensures grows { Grows (unrolled gates.now known.old.cycles) known.old known.new }
-    ensures added { IsTrue result → unmarked known.new < unmarked known.old }
-    ensures closed { IsFalse result → IsClosedAt (unrolled gates.now known.old.cycles) place known.new }
-    ensures same { IsFalse result → known.new ≡ known.old }
-{
-    let Some(instance) = find_instance(gates, known.cycles(), place) else {
-        return false;
-    };
-    match next_forced(known, instance) {
-        None => false,
-        Some(lit) => {
-            known.add(lit);
-            true
-        }
-    }
 }

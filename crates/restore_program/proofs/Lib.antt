@@ -1,10 +1,8 @@
 pub mod Answering
-pub mod DumpLaws
-pub mod DumpReading
-pub mod DumpScanning
+pub mod CommandWords
+pub mod DumpLits
 pub mod OneAnswer
 pub mod Pieces
 pub mod Sounding
 pub mod TableBits
 pub mod TableRows
-pub mod ThreeWords

@@ -1,5 +1,5 @@
--- There is one answer at most, and inputs of the first form are answered.
-use Rattle.std.proofs.Common.{◌≡◌, ◌⊎◌, ℕ, ◌≤◌, ◌<◌, Bool, true, false, List, [], ◌∷◌, length, get_or, Some, refl, sym, ap, subst, ◌∙◌, inl, inr, arith}
+-- There is one answer at most, and accepted inputs are answered.
+use Rattle.std.proofs.Common.{◌≡◌, ◌≢◌, ◌⊎◌, ℕ, ◌≤◌, ◌<◌, Bool, true, false, List, [], ◌∷◌, ◌++◌, length, map, get_or, Some, refl, sym, ap, subst, ◌∙◌, inl, inr, arith}
 use Rattle.std.specs.Prelude.{codes}
 use Rattle.std.proofs.lemmas.Option.{same_Some}
 use mathlib.Core.Path.{fun_ext}
@@ -7,20 +7,40 @@ use Rattle.sr_model.specs.declared.cells.Cell.{Cell}
 use Rattle.sr_model.specs.declared.cells.Lit.{Lit}
 use Rattle.sr_model.specs.Declaration.{Declaration}
 use Rattle.sr_model.specs.Closure.{LitSet, HasBoth, SameLits, lit, passing}
-use Rattle.sr_model.specs.Dump.{Row, Known}
 use Rattle.sr_outside.specs.Told.{Held}
-use Rattle.bench_reader.specs.FirstForm.{IsFirstForm, Spells, drivers_of, unrolled_over}
-use Rattle.bench_reader.proofs.FirstFormLaws as netlists
-use Rattle.restore_program.specs.declared.reply.Part.TheVariants as parts
+use Rattle.bench_reader.specs.Grammar as grammar
+use Rattle.bench_reader.specs.Refusal as bench_refusal
+use Rattle.bench_reader.specs.declared.reader.BenchRefusal.{BenchRefusal}
+use Rattle.bench_reader.specs.declared.reader.BenchRefusal.TheVariants as bench
+use Rattle.bench_reader.specs.Printed.{bench_text}
+use Rattle.bench_reader.proofs.BenchLaws as texts
+use Rattle.netlist.specs.Circuit.{Circuit, IsCircuit, IsNetlist, circuit_of}
+use Rattle.std.specs.Fmt.{decimal}
+use Rattle.std.specs.List.{All}
+use Rattle.std.proofs.lemmas.List.Elements.{All-map}
+use Rattle.netlist.specs.Numbering.{IsStatement}
+use Rattle.netlist.specs.Laws.{SameRefusal}
+use Rattle.netlist.proofs.Circuits.{statements_give_circuits}
+use Rattle.netlist.proofs.OneRefusal.{refusal_is_unique, netlists_are_not_refused}
+use Rattle.bench_reader.proofs.Statements.{read_are}
+use Rattle.netlist.specs.Checks as checks
+use Rattle.netlist.specs.declared.checks.NetRefusal.{NetRefusal}
+use Rattle.netlist.specs.declared.checks.NetRefusal.TheVariants as net
+use Rattle.dump_reader.specs.Recording.{Recording}
+use Rattle.dump_reader.specs.declared.refusal.DumpRefusal.{DumpRefusal}
+use Rattle.dump_reader.specs.declared.refusal.DumpRefusal.TheVariants as dumps
+use Rattle.dump_reader.proofs.SameRows.{one_reading}
+use Rattle.dump_reader.proofs.RefusedOnce as dump_laws
+use Rattle.plain_close.specs.Simple.{IsSimple}
 use Rattle.restore_program.specs.declared.status.Status.{Status}
 use Rattle.restore_program.specs.declared.status.Status.TheVariants as statuses
-use Rattle.restore_program.specs.Answer.{usage, restore, OnNetlist, netlist_too_long, netlist_breaks, reads, OnDump, too_long, breaks, clash, table, most_bytes, names_of}
-use Rattle.restore_program.specs.AnswerLaws.{HasOneAnswer, AcceptedIsAnswered}
-use Rattle.restore_program.specs.FirstDump.{SpellsDump}
-use Rattle.restore_program.specs.Reply.{later_line, clash_line}
+use Rattle.restore_program.specs.Answer.{most_bytes, IsNetlistText, RefusedNetlist, netlist_too_long, bad_line, no_netlist, IsDumpText, IsDumpRefusal, SpellsDump, KnownFrom, OnDump, dump_too_long, bad_dump, not_built, clash, table, IsNetlistOf, OnRefused, DumpAnswer, RestoreAnswer, PrintAnswer, Answer, usage, restore, print}
+use Rattle.restore_program.specs.AnswerLaws.{HasOneAnswer, AcceptedIsAnswered, PrintableIsPrinted}
+use Rattle.restore_program.specs.Reply.{bench_line, net_line, dump_line, clash_line}
+use Rattle.restore_program.specs.Sound.{Accepts, IsPrintable}
 use Rattle.restore_program.specs.TableText.{table_text}
-use Rattle.restore_program.specs.Words.{Restores}
-use Rattle.restore_program.proofs.DumpLaws as dumps
+use Rattle.restore_program.specs.Words.{Restores, Prints, IsCommand}
+use Rattle.restore_program.proofs.CommandWords.{print_or_restore}
 
 -- no list is both too long and not
 not_longer : (bytes : List ℕ) → length bytes ≤ most_bytes → most_bytes < length bytes → ⊥
@@ -32,109 +52,219 @@ same_names words a b c d first second =
     let e : codes "restore" ∷ a ∷ b ∷ [] ≡ codes "restore" ∷ c ∷ d ∷ [] = sym first ∙ second in
     (ap (λ ws. get_or ws 1 []) e, ap (λ ws. get_or ws 2 []) e)
 
--- an input holds one list of bytes
-same_held : (held : Held) (a b bytes other : List ℕ) → a ≡ b → held a ≡ Some bytes → held b ≡ Some other → bytes ≡ other
-same_held held a b bytes other e first second = same_Some bytes other (sym first ∙ ap held e ∙ second)
+same_name : (words : List (List ℕ)) (a b : List ℕ) → Prints words a → Prints words b → a ≡ b
+same_name words a b first second =
+    let e : codes "print" ∷ a ∷ [] ≡ codes "print" ∷ b ∷ [] = sym first ∙ second in ap (λ ws. get_or ws 1 []) e
 
--- ---- inputs of the first form
+-- an input holds one list of bytes
+same_held : (held : Held) (name bytes other : List ℕ) → held name ≡ Some bytes → held name ≡ Some other → bytes ≡ other
+same_held held name bytes other first second = same_Some bytes other (sym first ∙ second)
+
+-- ---- one netlist
+
+same_circuit : (bytes : List ℕ) (c d : Circuit) → IsNetlistText bytes c → IsNetlistText bytes d → c ≡ d
+same_circuit bytes c d a b =
+    let stated : a.stated ≡ b.stated = texts.one_reading 1 (grammar.text_lines bytes) a.stated b.stated a.spells b.spells in
+    a.circuit ∙ ap (λ s. circuit_of (checks.without_lines s)) stated ∙ sym b.circuit
+
+same_netlist : (held : Held) (name : List ℕ) (c d : Circuit) → IsNetlistOf held name c → IsNetlistOf held name d → c ≡ d
+same_netlist held name c d (bytes, there, text) (other, again, other_text) =
+    same_circuit bytes c d text (subst (λ b. IsNetlistText b d) (sym (same_held held name bytes other there again)) other_text)
+
+is_circuit : (bytes : List ℕ) (c : Circuit) → IsNetlistText bytes c → IsCircuit c
+is_circuit bytes c a =
+    let are : All IsStatement (checks.without_lines a.stated) =
+    All-map IsStatement (λ (x : ℕ × Declaration). x.1) a.stated (read_are 1 (grammar.text_lines bytes) a.stated a.spells) in
+    subst IsCircuit (sym a.circuit) (statements_give_circuits (checks.without_lines a.stated) are a.netlist)
+
+-- a text of a netlist is not refused
+refused_or_read : (bytes : List ℕ) (c : Circuit) (text : List ℕ) (status : Status) → RefusedNetlist bytes text status → IsNetlistText bytes c → ⊥
+refused_or_read bytes c text status (netlist_too_long long) a = not_longer bytes a.few long
+refused_or_read bytes c text status (bad_line r short some is) a = some (texts.not_both bytes a.stated r a.spells is)
+refused_or_read bytes c text status (no_netlist stated r short some spells is) a =
+    let same : stated ≡ a.stated = texts.one_reading 1 (grammar.text_lines bytes) stated a.stated spells a.spells in
+    some (netlists_are_not_refused a.stated r a.netlist (subst (λ s. checks.IsRefusal s r) same is))
+
+same_line : (r s : NetRefusal) → SameRefusal r s → net_line r ≡ net_line s
+same_line (net.TooManySignals a) (net.TooManySignals b) e = ap (λ n. net_line (net.TooManySignals n)) e
+same_line (net.TooManyPins a) (net.TooManyPins b) e = ap (λ n. net_line (net.TooManyPins n)) e
+same_line (net.TwoDrivers a) (net.TwoDrivers b) e = ap (λ n. net_line (net.TwoDrivers n)) e
+same_line (net.NoDriver a) (net.NoDriver b) e = ap (λ (name : List ℕ). codes "srestore: netlist: 8 no driver " ++ name ++ codes "\n") e
+same_line (net.Loop a m) (net.Loop b n) e =
+    ap (λ (name : List ℕ). codes "srestore: netlist: 9 loop " ++ name ++ codes " " ++ decimal m ++ codes "\n") e.0
+    ∙ ap (λ k. codes "srestore: netlist: 9 loop " ++ b.items ++ codes " " ++ decimal k ++ codes "\n") e.1
+same_line net.NoMemory net.NoMemory e = refl
+same_line (net.TooManySignals a) (net.TooManyPins b) e = absurd e
+same_line (net.TooManySignals a) (net.TwoDrivers b) e = absurd e
+same_line (net.TooManySignals a) (net.NoDriver b) e = absurd e
+same_line (net.TooManySignals a) (net.Loop b n) e = absurd e
+same_line (net.TooManySignals a) net.NoMemory e = absurd e
+same_line (net.TooManyPins a) (net.TooManySignals b) e = absurd e
+same_line (net.TooManyPins a) (net.TwoDrivers b) e = absurd e
+same_line (net.TooManyPins a) (net.NoDriver b) e = absurd e
+same_line (net.TooManyPins a) (net.Loop b n) e = absurd e
+same_line (net.TooManyPins a) net.NoMemory e = absurd e
+same_line (net.TwoDrivers a) (net.TooManySignals b) e = absurd e
+same_line (net.TwoDrivers a) (net.TooManyPins b) e = absurd e
+same_line (net.TwoDrivers a) (net.NoDriver b) e = absurd e
+same_line (net.TwoDrivers a) (net.Loop b n) e = absurd e
+same_line (net.TwoDrivers a) net.NoMemory e = absurd e
+same_line (net.NoDriver a) (net.TooManySignals b) e = absurd e
+same_line (net.NoDriver a) (net.TooManyPins b) e = absurd e
+same_line (net.NoDriver a) (net.TwoDrivers b) e = absurd e
+same_line (net.NoDriver a) (net.Loop b n) e = absurd e
+same_line (net.NoDriver a) net.NoMemory e = absurd e
+same_line (net.Loop a m) (net.TooManySignals b) e = absurd e
+same_line (net.Loop a m) (net.TooManyPins b) e = absurd e
+same_line (net.Loop a m) (net.TwoDrivers b) e = absurd e
+same_line (net.Loop a m) (net.NoDriver b) e = absurd e
+same_line (net.Loop a m) net.NoMemory e = absurd e
+same_line net.NoMemory (net.TooManySignals b) e = absurd e
+same_line net.NoMemory (net.TooManyPins b) e = absurd e
+same_line net.NoMemory (net.TwoDrivers b) e = absurd e
+same_line net.NoMemory (net.NoDriver b) e = absurd e
+same_line net.NoMemory (net.Loop b n) e = absurd e
+
+one_refusal : (bytes text other : List ℕ) (status last : Status) → RefusedNetlist bytes text status → RefusedNetlist bytes other last → (text ≡ other) × (status ≡ last)
+one_refusal bytes text other status last (netlist_too_long long) (netlist_too_long _) = (refl, refl)
+one_refusal bytes text other status last (netlist_too_long long) (bad_line _ short _ _) = absurd (not_longer bytes short long)
+one_refusal bytes text other status last (netlist_too_long long) (no_netlist _ _ short _ _ _) = absurd (not_longer bytes short long)
+one_refusal bytes text other status last (bad_line _ short _ _) (netlist_too_long long) = absurd (not_longer bytes short long)
+one_refusal bytes text other status last (bad_line r _ some is) (bad_line s _ some_s is_s) = (ap bench_line (texts.one_refusal bytes r s is is_s some some_s), refl)
+one_refusal bytes text other status last (bad_line r _ some is) (no_netlist stated _ _ _ spells _) = absurd (some (texts.not_both bytes stated r spells is))
+one_refusal bytes text other status last (no_netlist _ _ short _ _ _) (netlist_too_long long) = absurd (not_longer bytes short long)
+one_refusal bytes text other status last (no_netlist stated _ _ _ spells _) (bad_line r _ some is) = absurd (some (texts.not_both bytes stated r spells is))
+one_refusal bytes text other status last (no_netlist stated r _ some spells is) (no_netlist again s _ some_s spells_s is_s) =
+    let same : stated ≡ again = texts.one_reading 1 (grammar.text_lines bytes) stated again spells spells_s in
+    (same_line r s (refusal_is_unique again r s (subst (λ x. checks.IsRefusal x r) same is) is_s some some_s), refl)
+
+-- ---- one answer to a dump
+
+same_test : (known : LitSet) (test last : Lit → Bool) → SameLits (passing test) known → SameLits (passing last) known → test ≡ last
+same_test known test last a b = fun_ext (λ l. same_bit (test l) (last l) (λ h. b.1 l (a.0 l h)) (λ h. a.1 l (b.0 l h)))
+  where
+    same_bit : (x y : Bool) → (x ≡ true → y ≡ true) → (y ≡ true → x ≡ true) → x ≡ y
+    same_bit true y first second = sym (first refl)
+    same_bit false true first second = second refl
+    same_bit false false first second = refl
+
+one_recording : (c : Circuit) (bytes : List ℕ) (a b : Recording) → IsCircuit c → IsDumpText c bytes a → IsDumpText c bytes b → a ≡ b
+one_recording c bytes a b circuit first second = one_reading c bytes a b circuit first.1 second.1
+
+-- a dump that makes both literals of a cell known has no table
+no_table : (c : Circuit) (d : Recording) (cell : Cell) (test : Lit → Bool) → HasBoth (KnownFrom c d) cell → SameLits (passing test) (KnownFrom c d) → ((x : Cell) → HasBoth (passing test) x → ⊥) → ⊥
+no_table c d cell test both passes no_clash = no_clash cell (passes.1 (lit cell false) both.0, passes.1 (lit cell true) both.1)
+
+one_on_dump : (c : Circuit) (bytes text other : List ℕ) (status last : Status) → IsCircuit c → OnDump c bytes text status → OnDump c bytes other last → (text ≡ other) × (status ≡ last)
+one_on_dump c bytes text other status last circuit (dump_too_long long) (dump_too_long _) = (refl, refl)
+one_on_dump c bytes text other status last circuit (dump_too_long long) (bad_dump _ short _ _) = absurd (not_longer bytes short long)
+one_on_dump c bytes text other status last circuit (dump_too_long long) (not_built _ is _) = absurd (not_longer bytes is.0 long)
+one_on_dump c bytes text other status last circuit (dump_too_long long) (clash _ _ is _ _) = absurd (not_longer bytes is.0 long)
+one_on_dump c bytes text other status last circuit (dump_too_long long) (table _ _ is _ _ _) = absurd (not_longer bytes is.0 long)
+one_on_dump c bytes text other status last circuit (bad_dump _ short _ _) (dump_too_long long) = absurd (not_longer bytes short long)
+one_on_dump c bytes text other status last circuit (bad_dump r _ some is) (bad_dump s _ some_s is_s) = (ap dump_line (dump_laws.one_refusal c bytes r s circuit is is_s some some_s), refl)
+one_on_dump c bytes text other status last circuit (bad_dump r _ some is) (not_built d read _) = absurd (some (dump_laws.not_both c bytes d r circuit read.1 is))
+one_on_dump c bytes text other status last circuit (bad_dump r _ some is) (clash d _ read _ _) = absurd (some (dump_laws.not_both c bytes d r circuit read.1 is))
+one_on_dump c bytes text other status last circuit (bad_dump r _ some is) (table d _ read _ _ _) = absurd (some (dump_laws.not_both c bytes d r circuit read.1 is))
+one_on_dump c bytes text other status last circuit (not_built _ is _) (dump_too_long long) = absurd (not_longer bytes is.0 long)
+one_on_dump c bytes text other status last circuit (not_built d read _) (bad_dump r _ some is) = absurd (some (dump_laws.not_both c bytes d r circuit read.1 is))
+one_on_dump c bytes text other status last circuit (not_built _ _ _) (not_built _ _ _) = (refl, refl)
+one_on_dump c bytes text other status last circuit (not_built _ _ other_gate) (clash _ _ _ simple _) = absurd (other_gate simple)
+one_on_dump c bytes text other status last circuit (not_built _ _ other_gate) (table _ _ _ simple _ _) = absurd (other_gate simple)
+one_on_dump c bytes text other status last circuit (clash _ _ is _ _) (dump_too_long long) = absurd (not_longer bytes is.0 long)
+one_on_dump c bytes text other status last circuit (clash d _ read _ _) (bad_dump r _ some is) = absurd (some (dump_laws.not_both c bytes d r circuit read.1 is))
+one_on_dump c bytes text other status last circuit (clash _ _ _ simple _) (not_built _ _ other_gate) = absurd (other_gate simple)
+one_on_dump c bytes text other status last circuit (clash _ _ _ _ _) (clash _ _ _ _ _) = (refl, refl)
+one_on_dump c bytes text other status last circuit (clash a cell read _ both) (table b test again _ passes no_clash) =
+    absurd (no_table c b cell test (subst (λ d. HasBoth (KnownFrom c d) cell) (one_recording c bytes a b circuit read again) both) passes no_clash)
+one_on_dump c bytes text other status last circuit (table _ _ is _ _ _) (dump_too_long long) = absurd (not_longer bytes is.0 long)
+one_on_dump c bytes text other status last circuit (table d _ read _ _ _) (bad_dump r _ some is) = absurd (some (dump_laws.not_both c bytes d r circuit read.1 is))
+one_on_dump c bytes text other status last circuit (table _ _ _ simple _ _) (not_built _ _ other_gate) = absurd (other_gate simple)
+one_on_dump c bytes text other status last circuit (table a test read _ passes no_clash) (clash b cell again _ both) =
+    absurd (no_table c a cell test (subst (λ d. HasBoth (KnownFrom c d) cell) (one_recording c bytes b a circuit again read) both) passes no_clash)
+one_on_dump c bytes text other status last circuit (table a test read _ passes _) (table b final again _ passes_final _) =
+    let same : a ≡ b = one_recording c bytes a b circuit read again in
+    let tests : test ≡ final = same_test (KnownFrom c b) test final (subst (λ d. SameLits (passing test) (KnownFrom c d)) same passes) passes_final in
+    (ap (λ (d : Recording). table_text c d.cycles test) same ∙ ap (table_text c b.cycles) tests, refl)
+
+one_to_dump : (held : Held) (c : Circuit) (dump text other : List ℕ) (status last : Status) → IsCircuit c → DumpAnswer held c dump text status → DumpAnswer held c dump other last → (text ≡ other) × (status ≡ last)
+one_to_dump held c dump text other status last circuit (bytes, there, on) (again, there_again, on_again) =
+    one_on_dump c again text other status last circuit (subst (λ b. OnDump c b text status) (same_held held dump bytes again there there_again) on) on_again
+
+-- ---- one answer
+
+one_to_refused : (held : Held) (name text other : List ℕ) (status last : Status) → OnRefused held name text status → OnRefused held name other last → (text ≡ other) × (status ≡ last)
+one_to_refused held name text other status last (bytes, there, refused) (again, there_again, refused_again) =
+    one_refusal again text other status last (subst (λ b. RefusedNetlist b text status) (same_held held name bytes again there there_again) refused) refused_again
+
+never_both : (held : Held) (name text : List ℕ) (status : Status) (c : Circuit) → OnRefused held name text status → IsNetlistOf held name c → ⊥
+never_both held name text status c (bytes, there, refused) (again, there_again, is) =
+    refused_or_read again c text status (subst (λ b. RefusedNetlist b text status) (same_held held name bytes again there there_again) refused) is
+
+one_restore : (held : Held) (netlist dump text other : List ℕ) (status last : Status) → RestoreAnswer held netlist dump text status → RestoreAnswer held netlist dump other last → (text ≡ other) × (status ≡ last)
+one_restore held netlist dump text other status last (inl a) (inl b) = one_to_refused held netlist text other status last a b
+one_restore held netlist dump text other status last (inl a) (inr (c, is, on)) = absurd (never_both held netlist text status c a is)
+one_restore held netlist dump text other status last (inr (c, is, on)) (inl b) = absurd (never_both held netlist other last c b is)
+one_restore held netlist dump text other status last (inr (c, is, on)) (inr (d, again, on_again)) =
+    one_to_dump held d dump text other status last (is_circuit again.0 d again.2) (subst (λ x. DumpAnswer held x dump text status) (same_netlist held netlist c d is again) on) on_again
+
+one_print : (held : Held) (netlist text other : List ℕ) (status last : Status) → PrintAnswer held netlist text status → PrintAnswer held netlist other last → (text ≡ other) × (status ≡ last)
+one_print held netlist text other status last (inl a) (inl b) = one_to_refused held netlist text other status last a b
+one_print held netlist text other status last (inl a) (inr (c, is, e, done)) = absurd (never_both held netlist text status c a is)
+one_print held netlist text other status last (inr (c, is, e, done)) (inl b) = absurd (never_both held netlist other last c b is)
+one_print held netlist text other status last (inr (c, is, e, done)) (inr (d, again, e_d, done_d)) = (e ∙ ap (λ x. bench_text x) (same_netlist held netlist c d is again) ∙ sym e_d, done ∙ sym done_d)
+
+pub one_answer : HasOneAnswer
+one_answer words held text other status last (usage refused) (usage _) = (refl, refl)
+one_answer words held text other status last (usage refused) (restore netlist dump _ _ asks _) = absurd (refused (inl (netlist, dump, asks)))
+one_answer words held text other status last (usage refused) (print netlist _ _ asks _) = absurd (refused (inr (netlist, asks)))
+one_answer words held text other status last (restore netlist dump _ _ asks _) (usage refused) = absurd (refused (inl (netlist, dump, asks)))
+one_answer words held text other status last (print netlist _ _ asks _) (usage refused) = absurd (refused (inr (netlist, asks)))
+one_answer words held text other status last (restore netlist dump _ _ asks _) (print own _ _ own_asks _) = absurd (print_or_restore words (own, own_asks) (netlist, dump, asks))
+one_answer words held text other status last (print own _ _ own_asks _) (restore netlist dump _ _ asks _) = absurd (print_or_restore words (own, own_asks) (netlist, dump, asks))
+one_answer words held text other status last (restore netlist dump _ _ asks on) (restore own own_dump _ _ own_asks own_on) =
+    let same : (netlist ≡ own) × (dump ≡ own_dump) = same_names words netlist dump own own_dump asks own_asks in
+    one_restore held own own_dump text other status last (subst (λ n. RestoreAnswer held n own_dump text status) same.0 (subst (λ d. RestoreAnswer held netlist d text status) same.1 on)) own_on
+one_answer words held text other status last (print netlist _ _ asks on) (print own _ _ own_asks own_on) =
+    one_print held own text other status last (subst (λ n. PrintAnswer held n text status) (same_name words netlist own asks own_asks) on) own_on
+
+-- ---- accepted inputs
 
 -- a table, or that both literals of some cell follow
 IsTableOrClash : List ℕ → Status → Type 0
 IsTableOrClash text status = (status ≡ statuses.Done) ⊎ ((status ≡ statuses.Dump) × (text ≡ clash_line))
 
-dump_answered : (ds : List Declaration) (netlist bytes : List ℕ) (cycles : ℕ) (rows : List Row) (text : List ℕ) (status : Status) → Spells netlist ds → length bytes ≤ most_bytes → SpellsDump (names_of ds) bytes cycles rows
-    → OnDump ds bytes text status → IsTableOrClash text status
+dump_answered : (c : Circuit) (bytes : List ℕ) (d : Recording) (text : List ℕ) (status : Status) → IsCircuit c → IsDumpText c bytes d → IsSimple c.drivers → OnDump c bytes text status → IsTableOrClash text status
 unfolding IsTableOrClash
-dump_answered ds netlist bytes cycles rows text status read short spells (too_long long) = absurd (not_longer bytes short long)
-dump_answered ds netlist bytes cycles rows text status read short spells (breaks line _ broken) = absurd (dumps.not_both ds bytes cycles rows line read.is_first_form spells broken)
-dump_answered ds netlist bytes cycles rows text status read short spells (clash _ _ cell _ _ both) = inr (refl, refl)
-dump_answered ds netlist bytes cycles rows text status read short spells (table _ _ known _ _ same no_clash) = inl refl
+dump_answered c bytes d text status circuit is simple (dump_too_long long) = absurd (not_longer bytes is.0 long)
+dump_answered c bytes d text status circuit is simple (bad_dump r _ some bad) = absurd (some (dump_laws.not_both c bytes d r circuit is.1 bad))
+dump_answered c bytes d text status circuit is simple (not_built _ _ other_gate) = absurd (other_gate simple)
+dump_answered c bytes d text status circuit is simple (clash _ _ _ _ _) = inr (refl, refl)
+dump_answered c bytes d text status circuit is simple (table _ _ _ _ _ _) = inl refl
 
-netlist_answered : (held : Held) (dump bytes dump_bytes : List ℕ) (ds : List Declaration) (cycles : ℕ) (rows : List Row) (text : List ℕ) (status : Status) → held dump ≡ Some dump_bytes
-    → length bytes ≤ most_bytes → length dump_bytes ≤ most_bytes → Spells bytes ds → SpellsDump (names_of ds) dump_bytes cycles rows → OnNetlist held dump bytes text status → IsTableOrClash text status
-netlist_answered held dump bytes dump_bytes ds cycles rows text status there short dump_short read spells (netlist_too_long long) = absurd (not_longer bytes short long)
-netlist_answered held dump bytes dump_bytes ds cycles rows text status there short dump_short read spells (netlist_breaks line _ broken) = absurd (netlists.not_both bytes ds line read broken)
-netlist_answered held dump bytes dump_bytes ds cycles rows text status there short dump_short read spells (reads own own_bytes _ _ _ own_read own_there on_dump) =
-    let same_ds : own ≡ ds = netlists.one_reading bytes own ds own_read read in
-    let same_bytes : own_bytes ≡ dump_bytes = same_held held dump dump own_bytes dump_bytes refl own_there there in
-    dump_answered ds bytes dump_bytes cycles rows text status read dump_short spells (subst (λ b. OnDump ds b text status) same_bytes (subst (λ xs. OnDump xs own_bytes text status) same_ds on_dump))
+restore_answered : (held : Held) (netlist dump dump_bytes : List ℕ) (c : Circuit) (d : Recording) (text : List ℕ) (status : Status) → IsNetlistOf held netlist c → held dump ≡ Some dump_bytes → IsDumpText c dump_bytes d
+    → IsSimple c.drivers → RestoreAnswer held netlist dump text status → IsTableOrClash text status
+restore_answered held netlist dump dump_bytes c d text status is there read simple (inl refused) = absurd (never_both held netlist text status c refused is)
+restore_answered held netlist dump dump_bytes c d text status is there read simple (inr (own, own_is, (bytes, own_there, on))) =
+    let same : own ≡ c = same_netlist held netlist own c own_is is in
+    let same_bytes : bytes ≡ dump_bytes = same_held held dump bytes dump_bytes own_there there in
+    dump_answered c dump_bytes d text status (is_circuit is.0 c is.2) read simple (subst (λ b. OnDump c b text status) same_bytes (subst (λ x. OnDump x bytes text status) same on))
 
 pub accepted_is_answered : AcceptedIsAnswered
 unfolding IsTableOrClash
-accepted_is_answered words held netlist dump netlist_bytes dump_bytes ds cycles rows asks netlist_there dump_there short dump_short read spells text status (usage other) = absurd (other (netlist, dump, asks))
-accepted_is_answered words held netlist dump netlist_bytes dump_bytes ds cycles rows asks netlist_there dump_there short dump_short read spells text status (restore own own_dump bytes _ _ own_asks own_there on_netlist) =
-    let same : (own ≡ netlist) × (own_dump ≡ dump) = same_names words own own_dump netlist dump own_asks asks in
-    let same_bytes : bytes ≡ netlist_bytes = same_held held own netlist bytes netlist_bytes same.0 own_there netlist_there in
-    netlist_answered held dump netlist_bytes dump_bytes ds cycles rows text status dump_there short dump_short read spells
-    (subst (λ b. OnNetlist held dump b text status) same_bytes (subst (λ d. OnNetlist held d bytes text status) same.1 on_netlist))
+accepted_is_answered words held c d a text status (usage refused) = absurd (refused (inl (a.netlist, a.dump, a.asked)))
+accepted_is_answered words held c d a text status (print own _ _ own_asks _) = absurd (print_or_restore words (own, own_asks) (a.netlist, a.dump, a.asked))
+accepted_is_answered words held c d a text status (restore netlist dump _ _ asks on) =
+    let same : (netlist ≡ a.netlist) × (dump ≡ a.dump) = same_names words netlist dump a.netlist a.dump asks a.asked in
+    restore_answered held a.netlist a.dump a.dump_bytes c d text status a.netlist_held a.dump_held a.dump_text a.simple
+    (subst (λ n. RestoreAnswer held n a.dump text status) same.0 (subst (λ x. RestoreAnswer held netlist x text status) same.1 on))
 
--- ---- one answer
+printed_done : (held : Held) (netlist : List ℕ) (c : Circuit) (text : List ℕ) (status : Status) → IsNetlistOf held netlist c → PrintAnswer held netlist text status → status ≡ statuses.Done
+printed_done held netlist c text status is (inl refused) = absurd (never_both held netlist text status c refused is)
+printed_done held netlist c text status is (inr (d, again, e, done)) = done
 
-same_bool : (a b : Bool) → (a ≡ true → b ≡ true) → (b ≡ true → a ≡ true) → a ≡ b
-same_bool true b there back = sym (there refl)
-same_bool false true there back = back refl
-same_bool false false there back = refl
-
--- one test passes the literals of a set
-same_test : (known : LitSet) (test other : Lit → Bool) → SameLits (passing test) known → SameLits (passing other) known → test ≡ other
-same_test known test other first second =
-    fun_ext (λ l. same_bool (test l) (other l) (λ h. second.1 l (first.0 l h)) (λ h. first.1 l (second.0 l h)))
-
--- a dump with both literals of a cell has no table
-no_table : (ds : List Declaration) (bytes : List ℕ) (a b : ℕ) (rows others : List Row) (cell : Cell) (test : Lit → Bool) → IsFirstForm ds → SpellsDump (names_of ds) bytes a rows → SpellsDump (names_of ds) bytes b others
-    → HasBoth (Known (unrolled_over ds a) rows) cell → SameLits (passing test) (Known (unrolled_over ds b) others) → ((c : Cell) → HasBoth (passing test) c → ⊥) → ⊥
-no_table ds bytes a b rows others cell test form first second both passes no_clash =
-    let same : (a ≡ b) × (rows ≡ others) = dumps.one_dump ds bytes a b rows others form first second in
-    let there : HasBoth (Known (unrolled_over ds b) others) cell = subst (λ n. HasBoth (Known (unrolled_over ds n) others) cell) same.0 (subst (λ xs. HasBoth (Known (unrolled_over ds a) xs) cell) same.1 both) in
-    no_clash cell (passes.1 (lit cell false) there.0, passes.1 (lit cell true) there.1)
-
-one_table : (ds : List Declaration) (bytes : List ℕ) (a b : ℕ) (rows others : List Row) (test last : Lit → Bool) → IsFirstForm ds → SpellsDump (names_of ds) bytes a rows → SpellsDump (names_of ds) bytes b others
-    → SameLits (passing test) (Known (unrolled_over ds a) rows) → SameLits (passing last) (Known (unrolled_over ds b) others)
-    → table_text (names_of ds) (drivers_of ds) a test ≡ table_text (names_of ds) (drivers_of ds) b last
-one_table ds bytes a b rows others test last form first second passes passes_last =
-    let same : (a ≡ b) × (rows ≡ others) = dumps.one_dump ds bytes a b rows others form first second in
-    let there : SameLits (passing test) (Known (unrolled_over ds b) others) =
-    subst (λ n. SameLits (passing test) (Known (unrolled_over ds n) others)) same.0 (subst (λ xs. SameLits (passing test) (Known (unrolled_over ds a) xs)) same.1 passes) in
-    let same_tests : test ≡ last = same_test (Known (unrolled_over ds b) others) test last there passes_last in
-    ap (λ n. table_text (names_of ds) (drivers_of ds) n test) same.0 ∙ ap (table_text (names_of ds) (drivers_of ds) b) same_tests
-
-one_on_dump : (ds : List Declaration) (bytes text other : List ℕ) (status last : Status) → IsFirstForm ds → OnDump ds bytes text status → OnDump ds bytes other last → (text ≡ other) × (status ≡ last)
-one_on_dump ds bytes text other status last form (too_long long) (too_long _) = (refl, refl)
-one_on_dump ds bytes text other status last form (too_long long) (breaks _ short _) = absurd (not_longer bytes short long)
-one_on_dump ds bytes text other status last form (too_long long) (clash _ _ _ short _ _) = absurd (not_longer bytes short long)
-one_on_dump ds bytes text other status last form (too_long long) (table _ _ _ short _ _ _) = absurd (not_longer bytes short long)
-one_on_dump ds bytes text other status last form (breaks _ short _) (too_long long) = absurd (not_longer bytes short long)
-one_on_dump ds bytes text other status last form (breaks line _ broken) (breaks next _ again) = (ap (later_line parts.Dump) (dumps.one_break ds bytes line next form broken again), refl)
-one_on_dump ds bytes text other status last form (breaks line _ broken) (clash cycles rows _ _ spells _) = absurd (dumps.not_both ds bytes cycles rows line form spells broken)
-one_on_dump ds bytes text other status last form (breaks line _ broken) (table cycles rows _ _ spells _ _) = absurd (dumps.not_both ds bytes cycles rows line form spells broken)
-one_on_dump ds bytes text other status last form (clash _ _ _ short _ _) (too_long long) = absurd (not_longer bytes short long)
-one_on_dump ds bytes text other status last form (clash cycles rows _ _ spells _) (breaks line _ broken) = absurd (dumps.not_both ds bytes cycles rows line form spells broken)
-one_on_dump ds bytes text other status last form (clash _ _ _ _ _ _) (clash _ _ _ _ _ _) = (refl, refl)
-one_on_dump ds bytes text other status last form (clash a rows cell _ spells both) (table b others test _ again passes no_clash) = absurd (no_table ds bytes a b rows others cell test form spells again both passes no_clash)
-one_on_dump ds bytes text other status last form (table _ _ _ short _ _ _) (too_long long) = absurd (not_longer bytes short long)
-one_on_dump ds bytes text other status last form (table cycles rows _ _ spells _ _) (breaks line _ broken) = absurd (dumps.not_both ds bytes cycles rows line form spells broken)
-one_on_dump ds bytes text other status last form (table a rows test _ spells passes no_clash) (clash b others cell _ again both) = absurd (no_table ds bytes b a others rows cell test form again spells both passes no_clash)
-one_on_dump ds bytes text other status last form (table a rows test _ spells passes _) (table b others final _ again passes_final _) = (one_table ds bytes a b rows others test final form spells again passes passes_final, refl)
-
-one_on_netlist : (held : Held) (dump bytes text other : List ℕ) (status last : Status) → OnNetlist held dump bytes text status → OnNetlist held dump bytes other last → (text ≡ other) × (status ≡ last)
-one_on_netlist held dump bytes text other status last (netlist_too_long long) (netlist_too_long _) = (refl, refl)
-one_on_netlist held dump bytes text other status last (netlist_too_long long) (netlist_breaks _ short _) = absurd (not_longer bytes short long)
-one_on_netlist held dump bytes text other status last (netlist_too_long long) (reads _ _ _ _ short _ _ _) = absurd (not_longer bytes short long)
-one_on_netlist held dump bytes text other status last (netlist_breaks _ short _) (netlist_too_long long) = absurd (not_longer bytes short long)
-one_on_netlist held dump bytes text other status last (netlist_breaks line _ broken) (netlist_breaks next _ again) = (ap (later_line parts.Netlist) (netlists.one_break bytes line next broken again), refl)
-one_on_netlist held dump bytes text other status last (netlist_breaks line _ broken) (reads ds _ _ _ _ read _ _) = absurd (netlists.not_both bytes ds line read broken)
-one_on_netlist held dump bytes text other status last (reads _ _ _ _ short _ _ _) (netlist_too_long long) = absurd (not_longer bytes short long)
-one_on_netlist held dump bytes text other status last (reads ds _ _ _ _ read _ _) (netlist_breaks line _ broken) = absurd (netlists.not_both bytes ds line read broken)
-one_on_netlist held dump bytes text other status last (reads ds dump_bytes _ _ _ read there on_dump) (reads own own_bytes _ _ _ own_read own_there own_on_dump) =
-    let same_ds : ds ≡ own = netlists.one_reading bytes ds own read own_read in
-    let same_bytes : dump_bytes ≡ own_bytes = same_held held dump dump dump_bytes own_bytes refl there own_there in
-    one_on_dump own own_bytes text other status last own_read.is_first_form (subst (λ b. OnDump own b text status) same_bytes (subst (λ xs. OnDump xs dump_bytes text status) same_ds on_dump)) own_on_dump
-
-pub one_answer : HasOneAnswer
-one_answer words held text other status last (usage refused) (usage _) = (refl, refl)
-one_answer words held text other status last (usage refused) (restore netlist dump _ _ _ asks _ _) = absurd (refused (netlist, dump, asks))
-one_answer words held text other status last (restore netlist dump _ _ _ asks _ _) (usage refused) = absurd (refused (netlist, dump, asks))
-one_answer words held text other status last (restore netlist dump bytes _ _ asks there on_netlist) (restore own own_dump own_bytes _ _ own_asks own_there own_on_netlist) =
-    let same : (netlist ≡ own) × (dump ≡ own_dump) = same_names words netlist dump own own_dump asks own_asks in
-    let same_bytes : bytes ≡ own_bytes = same_held held netlist own bytes own_bytes same.0 there own_there in
-    one_on_netlist held own_dump own_bytes text other status last (subst (λ b. OnNetlist held own_dump b text status) same_bytes (subst (λ d. OnNetlist held d bytes text status) same.1 on_netlist)) own_on_netlist
+pub printable_is_printed : PrintableIsPrinted
+printable_is_printed words held (netlist, c, asked, is) text status (usage refused) = absurd (refused (inr (netlist, asked)))
+printable_is_printed words held (netlist, c, asked, is) text status (restore own dump _ _ own_asks on) = absurd (print_or_restore words (netlist, asked) (own, dump, own_asks))
+printable_is_printed words held (netlist, c, asked, is) text status (print own _ _ own_asks on) =
+    printed_done held netlist c text status is (subst (λ n. PrintAnswer held n text status) (same_name words own netlist own_asks asked) on)

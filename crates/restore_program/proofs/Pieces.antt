@@ -9,7 +9,8 @@ use Rattle.sr_outside.specs.Told.{AppendsPart}
 use Rattle.std.specs.Prelude.{codes}
 use Rattle.std.specs.Fmt.{decimal}
 use Rattle.restore_program.specs.declared.reply.Part.{Part}
-use Rattle.restore_program.specs.Reply.{name_of, later_line, joined}
+use Rattle.restore_program.specs.declared.reply.Part.TheVariants as parts
+use Rattle.restore_program.specs.Reply.{name_of, refused_line, joined}
 
 pub append_known-append : (known : Option (List ℕ)) (a b : List ℕ) → append_known (append_known known a) b ≡ append_known known (a ++ b)
 append_known-append None a b = refl
@@ -51,9 +52,21 @@ pieces_more old mid new pieces i d h before after =
     ap joined (take_more pieces i d h) ∙ flat_map-append (λ piece. piece.now) (take i pieces) (get_or pieces i d ∷ []) ∙ ap (λ xs. joined (take i pieces) ++ xs) (append-nil (get_or pieces i d).now) in
     after ∙ ap (λ known. append_known known (get_or pieces i d).now) before ∙ append_known-append old (joined (take i pieces)) (get_or pieces i d).now ∙ ap (append_known old) (sym more)
 
--- the pieces of a refused line
-pub later_joined : (part : Part) (line : ℕ) (name digits : List ℕ) → name ≡ name_of part → digits ≡ decimal line
-    → codes "srestore: " ++ (name ++ (codes " line " ++ (digits ++ (codes ": 28 not built yet\n" ++ [])))) ≡ later_line part line
-later_joined part line name digits same_name same_digits =
-    ap (λ n. codes "srestore: " ++ (n ++ (codes " line " ++ (digits ++ (codes ": 28 not built yet\n" ++ []))))) same_name
-    ∙ ap (λ d. codes "srestore: " ++ (name_of part ++ (codes " line " ++ (d ++ (codes ": 28 not built yet\n" ++ []))))) same_digits ∙ simp append_assoc
+-- the pieces of the line of a refusal
+pub refused_joined : (part : Part) (line : ℕ) (name digits why : List ℕ) → name ≡ name_of part → digits ≡ decimal line
+    → codes "srestore: " ++ (name ++ (codes " line " ++ (digits ++ (why ++ [])))) ≡ refused_line part line why
+refused_joined part line name digits why same_name same_digits =
+    ap (λ n. codes "srestore: " ++ (n ++ (codes " line " ++ (digits ++ (why ++ []))))) same_name
+    ∙ ap (λ d. codes "srestore: " ++ (name_of part ++ (codes " line " ++ (d ++ (why ++ []))))) same_digits ∙ ap (λ w. codes "srestore: " ++ (name_of part ++ (codes " line " ++ (decimal line ++ w)))) (append-nil why)
+    ∙ simp append_assoc
+
+pub cells_joined : (line product : ℕ) (digits more : List ℕ) → digits ≡ decimal line → more ≡ decimal product
+    → codes "srestore: dump line " ++ (digits ++ (codes ": 17 too many cells " ++ (more ++ (codes "\n" ++ [])))) ≡ refused_line parts.Dump line (codes ": 17 too many cells " ++ decimal product ++ codes "\n")
+cells_joined line product digits more same_line same_product =
+    ap (λ d. codes "srestore: dump line " ++ (d ++ (codes ": 17 too many cells " ++ (more ++ (codes "\n" ++ []))))) same_line
+    ∙ ap (λ m. codes "srestore: dump line " ++ (decimal line ++ (codes ": 17 too many cells " ++ (m ++ (codes "\n" ++ []))))) same_product
+    ∙ simp append_assoc
+
+pub loop_joined : (count : ℕ) (name digits : List ℕ) → digits ≡ decimal count
+    → codes "srestore: netlist: 9 loop " ++ (name ++ (codes " " ++ (digits ++ (codes "\n" ++ [])))) ≡ codes "srestore: netlist: 9 loop " ++ name ++ codes " " ++ decimal count ++ codes "\n"
+loop_joined count name digits same = ap (λ d. codes "srestore: netlist: 9 loop " ++ (name ++ (codes " " ++ (d ++ (codes "\n" ++ []))))) same ∙ simp append_assoc

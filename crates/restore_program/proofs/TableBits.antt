@@ -1,9 +1,13 @@
 -- On the bits of all cells in one list.
-use Rattle.std.proofs.Common.{ℕ, suc, ◌+◌, ◌*◌, ◌/◌, ◌%◌, ◌-◌, ◌<◌, ◌≤◌, ◌≡◌, ◌≢◌, Bool, true, false, eqb, List, [], ◌∷◌, ◌++◌, length, get_or, set, drop, Option, Some, None, refl, sym, ap, subst, ◌∙◌, inl, inr, arith, get_or-set_same, get_or-set_other}
+use Rattle.std.proofs.Common.{ℕ, suc, ◌+◌, ◌*◌, ◌/◌, ◌%◌, ◌-◌, ◌<◌, ◌≤◌, ◌≡◌, ◌≢◌, Bool, true, false, eqb, List, [], ◌∷◌, ◌++◌, length, get_or, set, drop, map, replicate, Option, Some, None, refl, sym, ap, subst, ◌∙◌, inl, inr, arith, get_or-set_same, get_or-set_other}
 use Rattle.std.specs.Prelude.{slice_range}
 use Rattle.std.specs.List.{Contains}
 use Rattle.std.proofs.lemmas.Bool.{cases_Bool, eqb-true, eqb-false}
-use Rattle.std.proofs.lemmas.List.{length-take-le, length-drop, get_or-take, get_or-drop}
+use Rattle.std.proofs.lemmas.List.{length-take-le, length-drop, length-map, length-replicate, get_or-take, get_or-drop, get_or-map, get_or-replicate}
+use Rattle.sr_model.proofs.Members.{not_in_nil}
+use Rattle.dump_reader.specs.declared.dump.Tri.{Tri}
+use Rattle.dump_reader.specs.declared.dump.Tri.TheVariants.{X}
+use Rattle.dump_reader.specs.Recording.{bit_of}
 use Rattle.std.proofs.lemmas.List.FromFn.{fill_by_all}
 use Rattle.std.proofs.lemmas.List.Elements.{Contains-append_left, Contains-push, Contains-push_cases}
 use Rattle.std.proofs.lemmas.Nat.{div-mul-add, mod-mul-add}
@@ -45,6 +49,19 @@ other_cell lits l c (Some bit) other was = Contains-append_left lits (l ∷ []) 
 
 sig_of_cell : (l : Lit) (sig cycle : ℕ) → l.cell ≡ cell_at cycle (record { 0 = sig }) → (l.cell.sig.0 ≡ sig) × (l.cell.cycle ≡ cycle)
 sig_of_cell l sig cycle e = (ap (λ (c : Cell). c.sig.0) e, ap (λ (c : Cell). c.cycle) e)
+
+-- where nothing is known there are no bits
+pub AreBits-empty : (signals cycles : ℕ) (cells : List Tri) → cells ≡ replicate (signals * cycles) X → AreBits signals cycles [] (map bit_of cells)
+AreBits-empty signals cycles cells e = record {
+  size = length-map cells bit_of ∙ ap length e ∙ length-replicate (signals * cycles) X;
+  each = λ sig cycle below within.
+      let place : ℕ = sig * cycles + cycle in
+      let room : place < signals * cycles = grid_room cycles signals sig cycle within below in
+      let inside : place < length (replicate (signals * cycles) X) = subst (λ n. place < n) (sym (length-replicate (signals * cycles) X)) room in
+      let none : get_or (map bit_of cells) place None ≡ None =
+      ap (λ (xs : List Tri). get_or (map bit_of xs) place None) e ∙ get_or-map bit_of (replicate (signals * cycles) X) place X None inside ∙ ap bit_of (get_or-replicate (signals * cycles) place X X room) in
+      subst (IsBitOf [] (cell_at cycle (record { 0 = sig }))) (sym none) (λ bit h. not_in_nil (lit (cell_at cycle (record { 0 = sig })) bit) h);
+}
 
 -- a literal of no cell there
 pub AreBits-past : (signals cycles : ℕ) (lits : List Lit) (bits : List (Option Bool)) (l : Lit) → (l.cell.sig.0 < signals → l.cell.cycle < cycles → ⊥) → AreBits signals cycles lits bits → AreBits signals cycles (lits ++ l ∷ []) bits

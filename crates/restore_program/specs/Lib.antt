@@ -1,8 +1,6 @@
 pub mod Answer
 pub mod AnswerLaws
-pub mod DumpScan
-pub mod FirstDump
-pub mod Refusal
+pub mod Printing
 pub mod Reply
 pub mod Sound
 pub mod Status

@@ -3,10 +3,16 @@ use Rattle.std.specs.Prelude.{ℕ, List, ◌++◌, codes}
 use Rattle.std.specs.List.{flat_map}
 use Rattle.std.specs.Fmt.{decimal}
 use denote.Bor.{Bor}
+use Rattle.bench_reader.specs.declared.reader.BenchRefusal.{BenchRefusal}
+use Rattle.bench_reader.specs.declared.reader.BenchRefusal.TheVariants as bench
+use Rattle.netlist.specs.declared.checks.NetRefusal.{NetRefusal}
+use Rattle.netlist.specs.declared.checks.NetRefusal.TheVariants as net
+use Rattle.dump_reader.specs.declared.refusal.DumpRefusal.{DumpRefusal}
+use Rattle.dump_reader.specs.declared.refusal.DumpRefusal.TheVariants as dumps
 use Rattle.restore_program.specs.declared.reply.Part.{Part}
 use Rattle.restore_program.specs.declared.reply.Part.TheVariants as parts
 use Rattle.restore_program.specs.declared.reply.Reply.{Reply}
-use Rattle.restore_program.specs.declared.reply.Reply.TheVariants.{Usage, TooLong, Later, Clash, Fault, NoMemory, Table}
+use Rattle.restore_program.specs.declared.reply.Reply.TheVariants as replies
 use Rattle.restore_program.specs.declared.status.Status.{Status}
 use Rattle.restore_program.specs.declared.status.Status.TheVariants as statuses
 
@@ -20,8 +26,44 @@ usage_line = codes "srestore: words: 22 usage\n"
 abbrev pub too_long_line : Part → List ℕ
 too_long_line part = codes "srestore: " ++ name_of part ++ codes ": 24 too long\n"
 
-abbrev pub later_line : Part → ℕ → List ℕ
-later_line part line = codes "srestore: " ++ name_of part ++ codes " line " ++ decimal line ++ codes ": 28 not built yet\n"
+-- what is written of a line of an input, and why it is refused
+abbrev pub refused_line : Part → ℕ → List ℕ → List ℕ
+refused_line part line why = codes "srestore: " ++ name_of part ++ codes " line " ++ decimal line ++ why
+
+abbrev pub no_memory_line : List ℕ
+no_memory_line = codes "srestore: no memory\n"
+
+-- what is written of a netlist's text that is refused
+abbrev pub bench_line : BenchRefusal → List ℕ
+bench_line (bench.Syntax line) = refused_line parts.Netlist line (codes ": 1 syntax\n")
+bench_line (bench.NameLong line) = refused_line parts.Netlist line (codes ": 2 name too long\n")
+bench_line (bench.UnknownKind line) = refused_line parts.Netlist line (codes ": 3 unknown kind\n")
+bench_line (bench.WrongPins line) = refused_line parts.Netlist line (codes ": 4 wrong number of pins\n")
+bench_line bench.NoMemory = no_memory_line
+
+-- what is written of statements that stand for no netlist
+abbrev pub net_line : NetRefusal → List ℕ
+net_line (net.TooManySignals line) = refused_line parts.Netlist line (codes ": 5 too many signals\n")
+net_line (net.TooManyPins line) = refused_line parts.Netlist line (codes ": 6 too many pins\n")
+net_line (net.TwoDrivers line) = refused_line parts.Netlist line (codes ": 7 two drivers\n")
+net_line (net.NoDriver name) = codes "srestore: netlist: 8 no driver " ++ name.items ++ codes "\n"
+net_line (net.Loop name length) = codes "srestore: netlist: 9 loop " ++ name.items ++ codes " " ++ decimal length ++ codes "\n"
+net_line net.NoMemory = no_memory_line
+
+-- what is written of a dump's text that is refused
+abbrev pub dump_line : DumpRefusal → List ℕ
+dump_line (dumps.Head line) = refused_line parts.Dump line (codes ": 10 bad head\n")
+dump_line (dumps.Cycles line) = refused_line parts.Dump line (codes ": 11 bad cycles\n")
+dump_line (dumps.RowSyntax line) = refused_line parts.Dump line (codes ": 12 bad row\n")
+dump_line (dumps.UnknownSignal line) = refused_line parts.Dump line (codes ": 13 unknown signal\n")
+dump_line (dumps.TwiceNamed line) = refused_line parts.Dump line (codes ": 14 signal named twice\n")
+dump_line (dumps.RowLength line) = refused_line parts.Dump line (codes ": 15 row length\n")
+dump_line (dumps.BadBit line) = refused_line parts.Dump line (codes ": 16 bad bit\n")
+dump_line (dumps.TooManyCells line product) = refused_line parts.Dump line (codes ": 17 too many cells " ++ decimal product ++ codes "\n")
+dump_line dumps.NoMemory = no_memory_line
+
+abbrev pub not_built_line : List ℕ
+not_built_line = codes "srestore: netlist: 28 not built yet\n"
 
 abbrev pub clash_line : List ℕ
 clash_line = codes "srestore: dump: 28 not built yet\n"
@@ -29,31 +71,46 @@ clash_line = codes "srestore: dump: 28 not built yet\n"
 abbrev pub fault_line : Part → List ℕ
 fault_line part = codes "srestore: read fault " ++ name_of part ++ codes "\n"
 
-abbrev pub no_memory_line : List ℕ
-no_memory_line = codes "srestore: no memory\n"
-
 abbrev pub text_of : Reply → List ℕ
-text_of Usage = usage_line
-text_of (TooLong part) = too_long_line part
-text_of (Later part line) = later_line part line
-text_of Clash = clash_line
-text_of (Fault part) = fault_line part
-text_of NoMemory = no_memory_line
-text_of (Table text) = text.items
+text_of replies.Usage = usage_line
+text_of (replies.TooLong part) = too_long_line part
+text_of (replies.Bench refusal) = bench_line refusal
+text_of (replies.Net refusal) = net_line refusal
+text_of (replies.Dumped refusal) = dump_line refusal
+text_of replies.NotBuilt = not_built_line
+text_of replies.Clash = clash_line
+text_of (replies.Fault part) = fault_line part
+text_of replies.NoMemory = no_memory_line
+text_of (replies.Text text) = text.items
 
 -- the status of a refused input
 abbrev pub part_status : Part → Status
 part_status parts.Netlist = statuses.Netlist
 part_status parts.Dump = statuses.Dump
 
+abbrev pub bench_status : BenchRefusal → Status
+bench_status bench.NoMemory = statuses.NoMemory
+bench_status _ = statuses.Netlist
+
+abbrev pub net_status : NetRefusal → Status
+net_status net.NoMemory = statuses.NoMemory
+net_status _ = statuses.Netlist
+
+abbrev pub dump_status : DumpRefusal → Status
+dump_status dumps.NoMemory = statuses.NoMemory
+dump_status _ = statuses.Dump
+
 abbrev pub status_of : Reply → Status
-status_of Usage = statuses.Words
-status_of (TooLong part) = part_status part
-status_of (Later part line) = part_status part
-status_of Clash = statuses.Dump
-status_of (Fault part) = statuses.ReadFault
-status_of NoMemory = statuses.NoMemory
-status_of (Table text) = statuses.Done
+status_of replies.Usage = statuses.Words
+status_of (replies.TooLong part) = part_status part
+status_of (replies.Bench refusal) = bench_status refusal
+status_of (replies.Net refusal) = net_status refusal
+status_of (replies.Dumped refusal) = dump_status refusal
+status_of replies.NotBuilt = statuses.Netlist
+status_of replies.Clash = statuses.Dump
+status_of (replies.Fault part) = statuses.ReadFault
+status_of replies.NoMemory = statuses.NoMemory
+status_of (replies.Text text) = statuses.Done
 
 -- the pieces, one after another
 abbrev pub joined : List (Bor (List ℕ)) → List ℕ

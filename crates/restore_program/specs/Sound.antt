@@ -1,46 +1,44 @@
 -- What the text of a run says of the executions that match the dump.
-use Rattle.std.specs.Prelude.{ℕ, ◌≡◌, ◌≤◌, ⊤, List, ◌++◌, length, Some}
-use Rattle.std.specs.List.{flat_map}
-use Rattle.sr_model.specs.Declaration.{Declaration}
+use Rattle.std.specs.Prelude.{ℕ, ◌≡◌, ⊤, List, Some}
 use Rattle.sr_model.specs.Netlist.{Valuation, IsExecution}
 use Rattle.sr_model.specs.Dump.{Row, Matches}
 use Rattle.sr_outside.specs.Told.{Held}
-use Rattle.bench_reader.specs.FirstForm.{Spells, unrolled_over}
+use Rattle.netlist.specs.Circuit.{Circuit, unrolled_over}
+use Rattle.dump_reader.specs.Recording.{Recording}
+use Rattle.dump_reader.specs.Print.{printed}
+use Rattle.plain_close.specs.Simple.{IsSimple}
 use Rattle.restore_program.specs.declared.status.Status.{Status}
 use Rattle.restore_program.specs.declared.status.Status.TheVariants as statuses
-use Rattle.restore_program.specs.FirstDump.{SpellsDump, head_line, cycles_line, row_line}
-use Rattle.restore_program.specs.Answer.{most_bytes, names_of}
-use Rattle.restore_program.specs.Words.{Restores}
+use Rattle.restore_program.specs.Answer.{IsNetlistOf, IsDumpText}
+use Rattle.restore_program.specs.Words.{Restores, Prints}
 
--- the words ask for a netlist and a dump that are held and accepted: the netlist states these declarations, and the dump has these rows over so many cycles
-pub record Accepts (words : List (List ℕ)) (held : Held) (ds : List Declaration) (cycles : ℕ) (rows : List Row) : Type 0 where
+-- the words ask for a netlist and a dump that are held and accepted, with this recording, and all its gates are built
+pub record Accepts (words : List (List ℕ)) (held : Held) (c : Circuit) (d : Recording) : Type 0 where
   pub netlist : List ℕ
   pub dump : List ℕ
   pub asked : Restores words netlist dump
-  pub netlist_bytes : List ℕ
+  pub netlist_held : IsNetlistOf held netlist c
   pub dump_bytes : List ℕ
-  pub netlist_held : held netlist ≡ Some netlist_bytes
   pub dump_held : held dump ≡ Some dump_bytes
-  pub netlist_fits : length netlist_bytes ≤ most_bytes
-  pub dump_fits : length dump_bytes ≤ most_bytes
-  pub netlist_spells : Spells netlist_bytes ds
-  pub dump_spells : SpellsDump (names_of ds) dump_bytes cycles rows
+  pub dump_text : IsDumpText c dump_bytes d
+  pub simple : IsSimple c.drivers
 
 abbrev pub IsAccepted : List (List ℕ) → Held → Type 0
-IsAccepted words held = (ds : List Declaration) × (cycles : ℕ) × (rows : List Row) × Accepts words held ds cycles rows
+IsAccepted words held = (c : Circuit) × (d : Recording) × Accepts words held c d
 
--- the text has rows of bits, and each execution that matches the dump has each bit of them
+-- the words ask for the text of a netlist that is held and accepted
+abbrev pub IsPrintable : List (List ℕ) → Held → Type 0
+IsPrintable words held = (netlist : List ℕ) × (c : Circuit) × Prints words netlist × IsNetlistOf held netlist c
+
+-- the text is printed rows of bits, and each execution that matches the dump has each bit of them
 abbrev pub IsSoundTable : List (List ℕ) → List ℕ → Held → Type 0
 IsSoundTable words text held =
-    (ds : List Declaration) × (cycles : ℕ) × (rows : List Row) × (written : List Row) × Accepts words held ds cycles rows
-    × (text ≡ head_line ++ cycles_line cycles ++ flat_map (row_line (names_of ds)) written)
-    × ((v : Valuation) → IsExecution (unrolled_over ds cycles) v → Matches v rows → Matches v written)
+    (c : Circuit) × (d : Recording) × (rows : List Row) × Accepts words held c d × (text ≡ printed c.names (record { cycles = d.cycles; rows = rows }))
+    × ((v : Valuation) → IsExecution (unrolled_over c d.cycles) v → Matches v d.rows → Matches v rows)
 
 -- no execution matches the dump
 abbrev pub NoneMatches : List (List ℕ) → Held → Type 0
-NoneMatches words held =
-    (ds : List Declaration) × (cycles : ℕ) × (rows : List Row) × Accepts words held ds cycles rows
-    × ((v : Valuation) → IsExecution (unrolled_over ds cycles) v → Matches v rows → ⊥)
+NoneMatches words held = (c : Circuit) × (d : Recording) × Accepts words held c d × ((v : Valuation) → IsExecution (unrolled_over c d.cycles) v → Matches v d.rows → ⊥)
 
 -- how a run ends on an accepted netlist and dump, unless memory, reading or writing fails: with a table, or as a contradiction
 abbrev pub Finishes : Type 0 → Status → Type 0

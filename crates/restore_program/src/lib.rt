@@ -1,8 +1,10 @@
 //! The program: from the words of the command line to the text that is written.
 #![tactic(auto)]
 
-mod dump;
 mod laws;
+mod lines;
+mod netlists;
+mod print;
 mod reply;
 mod restore;
 mod status;
@@ -12,7 +14,6 @@ mod tests;
 mod top;
 mod words;
 
-pub use dump::first_dump_laws;
 pub use laws::answer_laws;
 pub use status::Status;
 pub use top::run;

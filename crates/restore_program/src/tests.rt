@@ -1,18 +1,20 @@
 //! Whole runs over inputs and a sink in memory, with the text and the status that were worked out by hand.
 use crate::run;
+use itoa::Buffer;
 use sr_outside::{MemInputs, MemSink};
 use std::alloc::{AllocError, Global};
 use std::process::Abort;
-use std::test::Fail;
+use std::test::*;
 use std::thread::Threads;
 
 const GATES: &[u8] = b"INPUT(a)\nINPUT(b)\nn = NOT(a)\ng = AND(n, b)\nq = DFF(g)\nr = DFF(n)\n";
 
 const WITH_OR: &[u8] = b"INPUT(a)\nINPUT(b)\nz = OR(a, b)\nq = DFF(z)\n";
 
-const LATER_NAME_FIRST: &[u8] = b"INPUT(a)\nz = DFF(a)\nb = NOT(z)\nc = DFF(b)\n";
-
 const APART: &[u8] = b"INPUT(a)\nINPUT(b)\np = DFF(a)\nq = DFF(b)\n";
+
+/// `q` is named before `n`, and `n` before `a`.
+const BACKWARDS: &[u8] = b"q = DFF(n)\nn = not(a)\nINPUT(a)\n";
 
 const DUMP: &[u8] = b"srdump 1\ncycles 2\nq x1\n";
 
@@ -20,13 +22,17 @@ const TABLE: &[u8] = b"srdump 1\ncycles 2\nq x1\nr x1\n";
 
 const USAGE: &[u8] = b"srestore: words: 22 usage\n";
 
-const NETLIST_TOO_LONG: &[u8] = b"srestore: netlist: 24 too long\n";
+const NETLIST_FAULT: &[u8] = b"srestore: read fault netlist\n";
 
-const DUMP_TOO_LONG: &[u8] = b"srestore: dump: 24 too long\n";
+const DUMP_FAULT: &[u8] = b"srestore: read fault dump\n";
 
 const CLASH: &[u8] = b"srestore: dump: 28 not built yet\n";
 
+const NOT_BUILT: &[u8] = b"srestore: netlist: 28 not built yet\n";
+
 const RESTORE: [&str; 3] = ["restore", "net", "dump"];
+
+const PRINT: [&str; 2] = ["print", "net"];
 
 fn words_of(alloc: Global, words: &[&str]) -> Result<Vec<String>, AllocError> {
     let mut owned = Vec::new(alloc);
@@ -52,107 +58,317 @@ fn expect_run(
     room: u32,
     want: (&[u8], u8),
 ) -> Result<(), Fail> {
+    let mut out = MemSink::new(alloc, room)?;
+    expect_written(rt, alloc, words, inputs, &mut out, want)
+}
+
+fn expect_written(
+    rt: &(impl Abort + Threads + Sync),
+    alloc: Global,
+    words: &[&str],
+    inputs: &mut MemInputs,
+    out: &mut MemSink,
+    want: (&[u8], u8),
+) -> Result<(), Fail> {
     let (text, code) = want;
     let words = words_of(alloc, words)?;
-    let mut out = MemSink::new(alloc, room)?;
-    let status = run(rt, alloc, words.as_slice(), inputs, &mut out);
+    let status = run(rt, alloc, words.as_slice(), inputs, out);
     assert_eq!(rt; out.bytes(), text);
     assert_eq!(rt; status.code(), code);
     Ok(())
 }
 
+fn expect_restored(
+    rt: &(impl Abort + Threads + Sync),
+    alloc: Global,
+    netlist: &[u8],
+    dump: &[u8],
+    want: (&[u8], u8),
+) -> Result<(), Fail> {
+    let mut inputs = held(alloc, netlist, dump)?;
+    expect_run(rt, alloc, &RESTORE, &mut inputs, 1000, want)
+}
+
 #[test]
-fn netlists_and_dumps(rt: HostRuntime) -> Result<(), Fail> {
-    let alloc = rt.alloc();
-    let cases: [(&[u8], &[u8], &[u8], u8); 18] = [
+fn tables(rt: HostRuntime) -> Result<(), Fail> {
+    let cases: [(&[u8], &[u8], &[u8]); 13] = [
         // q 1 in cycle 1, back through g and n, and forward to r
-        (GATES, DUMP, TABLE, 0),
+        (GATES, DUMP, TABLE),
         // a 1 makes n and g 0, and a cycle later r and q
         (
             GATES,
             b"srdump 1\ncycles 2\na 1x\n",
             b"srdump 1\ncycles 2\nq x0\nr x0\n",
-            0,
         ),
         (
             GATES,
             b"srdump 1\ncycles 4\nb 0x11\na 0100\n",
             b"srdump 1\ncycles 4\nq x001\nr x101\n",
-            0,
         ),
         // a 0 of g with b 1 leaves n 0, back through the AND gate
         (
             GATES,
             b"srdump 1\ncycles 3\nb 1xx\nq x0x\n",
             b"srdump 1\ncycles 3\nq x0x\nr x0x\n",
-            0,
         ),
         (
             GATES,
             b"srdump 1\ncycles 4\nr 1x0x\nq x1x1\n",
             b"srdump 1\ncycles 4\nq x101\nr 1101\n",
-            0,
         ),
-        // the rows go by the lines of the netlist, not by name and not as the dump has them
+        // the rows go by the first mention of a flip-flop, not by name and not as the dump has them
         (
-            LATER_NAME_FIRST,
+            b"INPUT(a)\nz = DFF(a)\nb = NOT(z)\nc = DFF(b)\n",
             b"srdump 1\ncycles 3\nc x1x\na 1xx\n",
             b"srdump 1\ncycles 3\nz 01x\nc x10\n",
-            0,
+        ),
+        (
+            b"OUTPUT(c)\nINPUT(a)\nz = DFF(a)\nb = NOT(z)\nc = DFF(b)\n",
+            b"srdump 1\ncycles 3\nc x1x\na 1xx\n",
+            b"srdump 1\ncycles 3\nc x10\nz 01x\n",
         ),
         (
             APART,
             b"srdump 1\ncycles 2\na 1x\n",
             b"srdump 1\ncycles 2\np x1\nq xx\n",
-            0,
         ),
         (
             GATES,
             b"srdump 1\ncycles 1\n",
             b"srdump 1\ncycles 1\nq x\nr x\n",
+        ),
+        (b"", b"srdump 1\ncycles 64\n", b"srdump 1\ncycles 64\n"),
+        // names used before they are driven
+        (BACKWARDS, DUMP, b"srdump 1\ncycles 2\nq x1\n"),
+        // CR LF, blanks, an `X`, a comment and no last newline
+        (
+            GATES,
+            b" srdump 1\r\n\tcycles 2\r\n  q xX # none",
+            b"srdump 1\ncycles 2\nq xx\nr xx\n",
+        ),
+        // a flip-flop may stand in a loop
+        (
+            b"a = NOT(q)\nq = DFF(a)\n",
+            b"srdump 1\ncycles 4\nq x1xx\n",
+            b"srdump 1\ncycles 4\nq 0101\n",
+        ),
+    ];
+    for (netlist, dump, text) in cases {
+        expect_restored(&rt, rt.alloc(), netlist, dump, (text, 0))?;
+    }
+    Ok(())
+}
+
+#[test]
+fn contradictions(rt: HostRuntime) -> Result<(), Fail> {
+    let dumps: [&[u8]; 3] = [
+        // q asks for n 1 in cycle 0, and r for n 0
+        b"srdump 1\ncycles 2\nq x1\nr x0\n",
+        b"srdump 1\ncycles 1\nn 1\na 1\n",
+        // in a signal that is no flip-flop and has no row
+        b"srdump 1\ncycles 2\ng 1x\nr x0\n",
+    ];
+    for dump in dumps {
+        expect_restored(&rt, rt.alloc(), GATES, dump, (CLASH, 4))?;
+    }
+    Ok(())
+}
+
+#[test]
+fn refused_netlists(rt: HostRuntime) -> Result<(), Fail> {
+    let cases: [(&[u8], &[u8]); 16] = [
+        (
+            b"INPUT(a)\nz = AND()\n",
+            b"srestore: netlist line 2: 1 syntax\n",
+        ),
+        (
+            b"INPUT(a)\nz = FOO(a)\n",
+            b"srestore: netlist line 2: 3 unknown kind\n",
+        ),
+        (
+            b"INPUT(a)\nz = NOT(a, b)\n",
+            b"srestore: netlist line 2: 4 wrong number of pins\n",
+        ),
+        (
+            b"INPUT(a)\na = NOT(a)\n",
+            b"srestore: netlist line 2: 7 two drivers\n",
+        ),
+        (b"z = NOT(a)\n", b"srestore: netlist: 8 no driver a\n"),
+        (b"OUTPUT(o)\n", b"srestore: netlist: 8 no driver o\n"),
+        (
+            b"OUTPUT(a)\na = NOT(b)\nb = NOT(a)\n",
+            b"srestore: netlist: 9 loop a 2\n",
+        ),
+        // the tail that leads into the loop is not counted
+        (
+            b"t = NOT(a)\na = NOT(b)\nb = NOT(a)\n",
+            b"srestore: netlist: 9 loop a 2\n",
+        ),
+        // the first bad line, whatever is wrong with it
+        (
+            b"z = NOT(a, b)\nz = FOO(a)\nz\n",
+            b"srestore: netlist line 1: 4 wrong number of pins\n",
+        ),
+        // a line that can't be read comes before what is wrong with the whole
+        (
+            b"INPUT(a)\nINPUT(a)\nz = NOT(c)\nz\n",
+            b"srestore: netlist line 4: 1 syntax\n",
+        ),
+        (
+            b"l = NOT(l)\nz = NOT(c)\nINPUT(z)\n",
+            b"srestore: netlist line 3: 7 two drivers\n",
+        ),
+        (
+            b"l = NOT(l)\nz = NOT(c)\n",
+            b"srestore: netlist: 8 no driver c\n",
+        ),
+        (b"l = NOT(l)\n", b"srestore: netlist: 9 loop l 1\n"),
+        (b"#\n\n z", b"srestore: netlist line 3: 1 syntax\n"),
+        (
+            b"INPUT(a)\r\nz = NOT(a)\rb\r\n",
+            b"srestore: netlist line 2: 1 syntax\n",
+        ),
+        (
+            b"INPUT(a)\nq = DFF(a, a)\n",
+            b"srestore: netlist line 2: 4 wrong number of pins\n",
+        ),
+    ];
+    for (netlist, text) in cases {
+        // with a dump that is well, one that is refused, and none
+        expect_restored(&rt, rt.alloc(), netlist, DUMP, (text, 3))?;
+        expect_restored(&rt, rt.alloc(), netlist, b"", (text, 3))?;
+        let mut alone = MemInputs::new(rt.alloc());
+        alone.add("net", netlist)?;
+        expect_run(&rt, rt.alloc(), &RESTORE, &mut alone, 100, (text, 3))?;
+        expect_run(&rt, rt.alloc(), &PRINT, &mut alone, 100, (text, 3))?;
+    }
+    Ok(())
+}
+
+#[test]
+fn names_too_long(rt: HostRuntime) -> Result<(), Fail> {
+    let mut text = b"INPUT(b)\nINPUT(".to_vec(rt.alloc())?;
+    for _ in 0..256 {
+        text.push(b'a')?;
+    }
+    text.extend_from_slice(b")\n")?;
+    let line: &[u8] = b"srestore: netlist line 2: 2 name too long\n";
+    expect_restored(&rt, rt.alloc(), &text, DUMP, (line, 3))
+}
+
+#[test]
+fn refused_dumps(rt: HostRuntime) -> Result<(), Fail> {
+    let cases: [(&[u8], &[u8]); 14] = [
+        (b"", b"srestore: dump line 1: 10 bad head\n"),
+        (b"srdump 2\n", b"srestore: dump line 1: 10 bad head\n"),
+        (b"srdump 1", b"srestore: dump line 2: 11 bad cycles\n"),
+        (b"srdump 1\n#\n", b"srestore: dump line 3: 11 bad cycles\n"),
+        (
+            b"srdump 1\ncycles 0\n",
+            b"srestore: dump line 2: 11 bad cycles\n",
+        ),
+        (
+            b"srdump 1\ncycles 8193\n",
+            b"srestore: dump line 2: 11 bad cycles\n",
+        ),
+        (
+            b"srdump 1\ncycles 2\nq\n",
+            b"srestore: dump line 3: 12 bad row\n",
+        ),
+        (
+            b"srdump 1\ncycles 2\ns 01\n",
+            b"srestore: dump line 3: 13 unknown signal\n",
+        ),
+        (
+            b"srdump 1\ncycles 2\nq x1\nr x0\nq x1\n",
+            b"srestore: dump line 5: 14 signal named twice\n",
+        ),
+        (
+            b"srdump 1\ncycles 2\nq 11\nr x\n",
+            b"srestore: dump line 4: 15 row length\n",
+        ),
+        (
+            b"srdump 1\ncycles 2\nq 1y\n",
+            b"srestore: dump line 3: 16 bad bit\n",
+        ),
+        (
+            b"srdump 1\ncycles 2\nq 1y1\n",
+            b"srestore: dump line 3: 15 row length\n",
+        ),
+        (
+            b"srdump 1\ncycles 2\nq 1y\nq 1y\n",
+            b"srestore: dump line 3: 16 bad bit\n",
+        ),
+        (
+            b"\xef\xbb\xbfsrdump 1\n",
+            b"srestore: dump line 1: 10 bad head\n",
+        ),
+    ];
+    for (dump, text) in cases {
+        expect_restored(&rt, rt.alloc(), GATES, dump, (text, 4))?;
+    }
+    Ok(())
+}
+
+#[test]
+fn too_many_cells(rt: HostRuntime) -> Result<(), Fail> {
+    let mut netlist = Vec::new(rt.alloc());
+    for i in 0..32_769_u32 {
+        let mut buffer = Buffer::new();
+        netlist.extend_from_slice(b"INPUT(")?;
+        netlist.extend_from_slice(buffer.format(i).as_bytes())?;
+        netlist.extend_from_slice(b")\n")?;
+    }
+    let line: &[u8] = b"srestore: dump line 2: 17 too many cells 4194432\n";
+    let dump: &[u8] = b"srdump 1\ncycles 8192\n";
+    expect_restored(&rt, rt.alloc(), &netlist, dump, (line, 4))
+}
+
+#[test]
+fn gates_that_are_not_built(rt: HostRuntime) -> Result<(), Fail> {
+    let cases: [(&[u8], &[u8], &[u8], u8); 7] = [
+        (WITH_OR, DUMP, NOT_BUILT, 3),
+        // after what is wrong with the dump
+        (
+            WITH_OR,
+            b"srdump 1\ncycles 2\nz 0\n",
+            b"srestore: dump line 3: 15 row length\n",
+            4,
+        ),
+        (
+            b"INPUT(a)\nz = AND(a)\n",
+            b"srdump 1\ncycles 1\n",
+            NOT_BUILT,
+            3,
+        ),
+        (
+            b"INPUT(a)\nz = AND(a, a, a)\n",
+            b"srdump 1\ncycles 1\n",
+            NOT_BUILT,
+            3,
+        ),
+        (
+            b"INPUT(a)\nz = BUFF(a)\n",
+            b"srdump 1\ncycles 1\n",
+            NOT_BUILT,
+            3,
+        ),
+        // and before a contradiction
+        (
+            b"INPUT(a)\nn = NOT(a)\nz = XOR(a, n)\n",
+            b"srdump 1\ncycles 1\na 1\nn 1\n",
+            NOT_BUILT,
+            3,
+        ),
+        (
+            b"INPUT(a)\nz = AND(a, a)\n",
+            b"srdump 1\ncycles 1\n",
+            b"srdump 1\ncycles 1\n",
             0,
         ),
-        (b"", b"srdump 1\ncycles 64\n", b"srdump 1\ncycles 64\n", 0),
-        (
-            WITH_OR,
-            DUMP,
-            b"srestore: netlist line 3: 28 not built yet\n",
-            3,
-        ),
-        (
-            WITH_OR,
-            b"",
-            b"srestore: netlist line 3: 28 not built yet\n",
-            3,
-        ),
-        (
-            b"INPUT(a)\nb = NOT(a)",
-            DUMP,
-            b"srestore: netlist line 2: 28 not built yet\n",
-            3,
-        ),
-        (GATES, b"", b"srestore: dump line 1: 28 not built yet\n", 4),
-        (
-            GATES,
-            b"srdump 1\ncycles 65\n",
-            b"srestore: dump line 2: 28 not built yet\n",
-            4,
-        ),
-        (
-            GATES,
-            b"srdump 1\ncycles 2\nq x1\nr x0\nq x1\n",
-            b"srestore: dump line 5: 28 not built yet\n",
-            4,
-        ),
-        // q asks for n 1 in cycle 0, and r for n 0
-        (GATES, b"srdump 1\ncycles 2\nq x1\nr x0\n", CLASH, 4),
-        (GATES, b"srdump 1\ncycles 1\nn 1\na 1\n", CLASH, 4),
-        // a clash in a signal that is no flip-flop and has no row
-        (GATES, b"srdump 1\ncycles 2\ng 1x\nr x0\n", CLASH, 4),
     ];
     for (netlist, dump, text, code) in cases {
-        let mut inputs = held(alloc, netlist, dump)?;
-        expect_run(&rt, alloc, &RESTORE, &mut inputs, 100, (text, code))?;
+        expect_restored(&rt, rt.alloc(), netlist, dump, (text, code))?;
     }
     Ok(())
 }
@@ -160,76 +376,128 @@ fn netlists_and_dumps(rt: HostRuntime) -> Result<(), Fail> {
 #[test]
 fn words(rt: HostRuntime) -> Result<(), Fail> {
     let alloc = rt.alloc();
-    let cases: [(&[&str], &[u8], u8); 8] = [
+    let cases: [(&[&str], &[u8], u8); 14] = [
         (&RESTORE, TABLE, 0),
+        (&PRINT, GATES, 0),
         (&["restore", "net"], USAGE, 2),
         (&[], USAGE, 2),
         (&["restore", "net", "dump", "dump"], USAGE, 2),
         (&["Restore", "net", "dump"], USAGE, 2),
         (&["restore ", "net", "dump"], USAGE, 2),
-        (
-            &["restore", "none", "dump"],
-            b"srestore: read fault netlist\n",
-            5,
-        ),
-        (
-            &["restore", "net", "none"],
-            b"srestore: read fault dump\n",
-            5,
-        ),
+        (&["print"], USAGE, 2),
+        (&["print", "net", "dump"], USAGE, 2),
+        (&["Print", "net"], USAGE, 2),
+        (&["", "net"], USAGE, 2),
+        (&["restore", "none", "dump"], NETLIST_FAULT, 5),
+        (&["restore", "net", "none"], DUMP_FAULT, 5),
+        (&["print", "none"], NETLIST_FAULT, 5),
     ];
     for (words, text, code) in cases {
         let mut inputs = held(alloc, GATES, DUMP)?;
         expect_run(&rt, alloc, words, &mut inputs, 100, (text, code))?;
     }
-    // a netlist that is refused, before the dump is come to
-    let mut refused = held(alloc, WITH_OR, DUMP)?;
-    let line: &[u8] = b"srestore: netlist line 3: 28 not built yet\n";
-    expect_run(
-        &rt,
-        alloc,
-        &["restore", "net", "none"],
-        &mut refused,
-        100,
-        (line, 3),
-    )?;
     // with no input at all
     let mut none = MemInputs::new(alloc);
-    expect_run(&rt, alloc, &["restore", "net"], &mut none, 100, (USAGE, 2))?;
-    Ok(())
+    expect_run(&rt, alloc, &["restore", "net"], &mut none, 100, (USAGE, 2))
 }
 
 #[test]
-fn sinks_with_little_room(rt: HostRuntime) -> Result<(), Fail> {
-    let alloc = rt.alloc();
-    for (dump, room, text, code) in [
-        (DUMP, 0, b"".as_slice(), 6),
-        (DUMP, 10, b"srdump 1\nc".as_slice(), 6),
-        (DUMP, 27, b"srdump 1\ncycles 2\nq x1\nr x1".as_slice(), 6),
-        (DUMP, 28, TABLE, 0),
-        (b"".as_slice(), 17, b"srestore: dump li".as_slice(), 6),
-    ] {
-        let mut inputs = held(alloc, GATES, dump)?;
-        expect_run(&rt, alloc, &RESTORE, &mut inputs, room, (text, code))?;
+fn printed_netlists(rt: HostRuntime) -> Result<(), Fail> {
+    let cases: [(&[u8], &[u8]); 7] = [
+        (b"", b""),
+        (
+            b"# worked.bench in another spelling\nOUTPUT(q)\nOUTPUT(q)\n q = dff( g )\ng = And( n , b )   # n is driven below\nr=dff(n)\nn = Not( a )\ninput(a)\ninput(b)\n",
+            b"INPUT(a)\nINPUT(b)\nOUTPUT(q)\nq = DFF(g)\ng = AND(n, b)\nn = NOT(a)\nr = DFF(n)\n",
+        ),
+        (GATES, GATES),
+        (WITH_OR, WITH_OR),
+        (
+            b"q=dff(z)\r\n z = xor ( a , a ) # sum\r\nOUTPUT(q)\r\nOUTPUT(q)\r\ninput(a)",
+            b"INPUT(a)\nOUTPUT(q)\nq = DFF(z)\nz = XOR(a, a)\n",
+        ),
+        (
+            b"INPUT(b)\nINPUT(a)\nOUTPUT(z)\nz = buf(y)\ny = nand(b, a)\n",
+            b"INPUT(b)\nINPUT(a)\nOUTPUT(z)\nz = BUFF(y)\ny = NAND(b, a)\n",
+        ),
+        (BACKWARDS, b"INPUT(a)\nq = DFF(n)\nn = NOT(a)\n"),
+    ];
+    for (netlist, text) in cases {
+        let mut inputs = held(rt.alloc(), netlist, b"")?;
+        expect_run(&rt, rt.alloc(), &PRINT, &mut inputs, 1000, (text, 0))?;
+        // what was printed is printed as it is
+        let mut again = held(rt.alloc(), text, b"")?;
+        expect_run(&rt, rt.alloc(), &PRINT, &mut again, 1000, (text, 0))?;
     }
     Ok(())
+}
+
+/// The start and each read of each input fail in turn, where a read gives at most 5 bytes. The last read comes to the end and gives none.
+#[test]
+fn reads_that_fail(rt: HostRuntime) -> Result<(), Fail> {
+    let alloc = rt.alloc();
+    let cases: [(&[&str], &str, u32, &[u8], &[u8]); 3] = [
+        (&RESTORE, "net", 14, NETLIST_FAULT, TABLE),
+        (&RESTORE, "dump", 6, DUMP_FAULT, TABLE),
+        (&PRINT, "net", 14, NETLIST_FAULT, GATES),
+    ];
+    for (words, name, last, fault, text) in cases {
+        for call in 0..16 {
+            let mut inputs = held(alloc, GATES, DUMP)?;
+            inputs.most(5);
+            inputs.fail(name, call)?;
+            let want = if call <= last { (fault, 5) } else { (text, 0) };
+            expect_run(&rt, alloc, words, &mut inputs, 100, want)?;
+        }
+    }
+    // whole reads: the second one of the dump comes to its end
+    let mut inputs = held(alloc, GATES, DUMP)?;
+    inputs.fail("dump", 2)?;
+    expect_run(&rt, alloc, &RESTORE, &mut inputs, 100, (DUMP_FAULT, 5))
+}
+
+/// The sink has room for each number of bytes in turn, and takes at most 3 at once.
+#[test]
+fn sinks_that_stop(rt: HostRuntime) -> Result<(), Fail> {
+    let alloc = rt.alloc();
+    let cases: [(&[&str], &[u8], &[u8], u8); 4] = [
+        (&RESTORE, DUMP, TABLE, 0),
+        (&RESTORE, b"", b"srestore: dump line 1: 10 bad head\n", 4),
+        (&["restore"], DUMP, USAGE, 2),
+        (&PRINT, DUMP, GATES, 0),
+    ];
+    for (words, dump, text, code) in cases {
+        for room in 0..100 {
+            let mut inputs = held(alloc, GATES, dump)?;
+            let mut out = MemSink::new(alloc, room)?;
+            out.most(3);
+            let want = if (room as usize) < text.len() {
+                (&text[..room as usize], 6)
+            } else {
+                (text, code)
+            };
+            expect_written(&rt, alloc, words, &mut inputs, &mut out, want)?;
+        }
+    }
+    // at once
+    let mut inputs = held(alloc, GATES, DUMP)?;
+    expect_run(&rt, alloc, &RESTORE, &mut inputs, 7, (b"srdump ", 6))
 }
 
 #[test]
 fn texts_of_16_mib(rt: HostRuntime) -> Result<(), Fail> {
     let alloc = rt.alloc();
-    let long = vec![in alloc; b'a'; 16_777_217]?;
+    let long = vec![in alloc; b'\n'; 16_777_217]?;
     let most = &long.as_slice()[1..];
     let cases: [(&[u8], &[u8], &[u8], u8); 4] = [
-        (&long, DUMP, NETLIST_TOO_LONG, 3),
+        (&long, DUMP, b"srestore: netlist: 24 too long\n", 3),
+        (most, b"srdump 1\ncycles 1\n", b"srdump 1\ncycles 1\n", 0),
+        (GATES, &long, b"srestore: dump: 24 too long\n", 4),
         (
+            GATES,
             most,
-            DUMP,
-            b"srestore: netlist line 1: 28 not built yet\n",
-            3,
+            b"srestore: dump line 16777217: 10 bad head\n",
+            4,
         ),
-        (GATES, &long, DUMP_TOO_LONG, 4),
-        (GATES, most, b"srestore: dump line 1: 28 not built yet\n", 4),
     ];
     for (netlist, dump, text, code) in cases {
         let mut inputs = held(alloc, netlist, dump)?;

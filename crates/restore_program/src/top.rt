@@ -5,11 +5,12 @@ ghost use Rattle.std.specs.Io.KnownBytes.{append_known};
 ghost use Rattle.sr_outside.specs.Counts.{IsCounted};
 ghost use Rattle.sr_outside.specs.Told.{AppendsPart, IsFull};
 ghost use Rattle.restore_program.specs.declared.status.Status.{Status as AnyStatus};
-ghost use Rattle.restore_program.specs.Words.{IsRestore};
-ghost use Rattle.restore_program.specs.Answer.{AreSteady, IsFault, IsWordsFault, OnFault, ReplyAnswer, Says};
+ghost use Rattle.restore_program.specs.Words.{IsCommand, IsRestore};
+ghost use Rattle.restore_program.specs.Answer.{AreSteady, IsFault, IsPlain, IsWordsFault, OnFault, ReplyAnswer, Says};
 ghost use Rattle.restore_program.specs.Reply.{clash_line};
-ghost use Rattle.restore_program.specs.Sound.{Finishes, IsAccepted, IsSoundTable, NoneMatches};
+ghost use Rattle.restore_program.specs.Sound.{Finishes, IsAccepted, IsPrintable, IsSoundTable, NoneMatches};
 
+use crate::print::print_reply;
 use crate::reply::{Reply, reply_status, write_reply};
 use crate::restore::restore_reply;
 use crate::status::Status;
@@ -33,7 +34,7 @@ pub fn run<R: Threads + Sync, I: Inputs, K: Sink>(
         × Says (map string_bytes words.now) (I.held inputs.old) (I.shaky inputs.old) text result }
 
     // Each bit of a table is that of every execution that matches the dump, and a contradiction is written only where none matches.
-    ensures sound { result ≡ Status.Done → (text : List ℕ) × (K.written out.new ≡ append_known (K.written out.old) text)
+    ensures sound { result ≡ Status.Done → IsRestore (map string_bytes words.now) → (text : List ℕ) × (K.written out.new ≡ append_known (K.written out.old) text)
         × IfSome (I.held inputs.old) (IsSoundTable (map string_bytes words.now) text) }
     ensures contradiction { result ≡ Status.Dump → IfSome (K.written out.old) (λ before. K.written out.new ≡ Some (before ++ clash_line)
         → IfSome (I.held inputs.old) (NoneMatches (map string_bytes words.now))) }
@@ -42,9 +43,12 @@ pub fn run<R: Threads + Sync, I: Inputs, K: Sink>(
     ensures accepted { IfSome (I.held inputs.old) (λ held. IsAccepted (map string_bytes words.now) held
         → Finishes (K.written out.new ≡ append_known (K.written out.old) clash_line) result) }
 
+    // The text of an accepted netlist is printed, unless memory, reading or writing fails.
+    ensures printed { IfSome (I.held inputs.old) (λ held. IsPrintable (map string_bytes words.now) held → IsPlain result → result ≡ Status.Done) }
+
     // Words that are refused start no input.
-    ensures usage { result ≡ Status.Words → ¬ IsRestore (map string_bytes words.now) }
-    ensures refused { ¬ IsRestore (map string_bytes words.now) → ((result ≡ Status.Words) ⊎ (result ≡ Status.WriteFault)) × (inputs.new ≡ inputs.old) }
+    ensures usage { result ≡ Status.Words → ¬ IsCommand (map string_bytes words.now) }
+    ensures refused { ¬ IsCommand (map string_bytes words.now) → ((result ≡ Status.Words) ⊎ (result ≡ Status.WriteFault)) × (inputs.new ≡ inputs.old) }
 
     // A fault is answered only where one was counted.
     ensures read_fault { result ≡ Status.ReadFault → IsCounted (I.faults inputs.old) (I.faults inputs.new) }
@@ -70,14 +74,15 @@ pub fn run<R: Threads + Sync, I: Inputs, K: Sink>(
 fn reply_to<I: Inputs>(alloc: Global, words: &[String], inputs: &mut I) -> Reply
     ensures answer { ReplyAnswer (map string_bytes words.now) (I.held inputs.old) result }
     ensures fault_of { OnFault (IsWordsFault (map string_bytes words.now) (I.held inputs.old) (I.shaky inputs.old)) result }
-    ensures usage { result ≡ Reply.Usage → ¬ IsRestore (map string_bytes words.now) }
-    ensures refused { ¬ IsRestore (map string_bytes words.now) → (result ≡ Reply.Usage) × (inputs.new ≡ inputs.old) }
+    ensures usage { result ≡ Reply.Usage → ¬ IsCommand (map string_bytes words.now) }
+    ensures refused { ¬ IsCommand (map string_bytes words.now) → (result ≡ Reply.Usage) × (inputs.new ≡ inputs.old) }
     ensures fault { IsFault result → IsCounted (I.faults inputs.old) (I.faults inputs.new) }
     ensures rose { I.faults inputs.old < I.faults inputs.new → IsFault result }
     ensures steady { AreSteady (I.held inputs.old) (I.shaky inputs.old) (map string_bytes words.now) → I.faults inputs.new ≡ I.faults inputs.old }
 {
     match read_words(words) {
         Ok(Settings::Restore) => restore_reply(alloc, inputs, words[1].as_str(), words[2].as_str()),
+        Ok(Settings::Print) => print_reply(alloc, inputs, words[1].as_str()),
         Err(WordRefusal::Usage) => Reply::Usage,
     }
 }

@@ -153,14 +153,14 @@ name_at-push (old ∷ files) file (suc i) within = name_at-push files file i (om
 -- what was left is what was given, and then what is left
 pub left_after : (now before : InMemory) (from front : List ℕ) (count : ℕ) → before ≡ now
     → from ≡ drop before.taken (bytes_at before.files before.last) → front ≡ take count from
-    → Some (unread now) ≡ Some (front ++ drop (before.taken + count) (bytes_at before.files before.last))
+    → unread now ≡ front ++ drop (before.taken + count) (bytes_at before.files before.last)
 left_after now before from front count same is_rest is_front =
     let all = bytes_at before.files before.last in
-    ap (λ (m : InMemory). Some (unread m)) (sym same)
-    ∙ ap Some (sym (take-append-drop count (drop before.taken all)))
-    ∙ ap (λ l. Some (take count (drop before.taken all) ++ l)) (drop-drop count before.taken all)
-    ∙ ap (λ l. Some (take count l ++ drop (before.taken + count) all)) (sym is_rest)
-    ∙ ap (λ l. Some (l ++ drop (before.taken + count) all)) (sym is_front)
+    ap unread (sym same)
+    ∙ sym (take-append-drop count (drop before.taken all))
+    ∙ ap (λ l. take count (drop before.taken all) ++ l) (drop-drop count before.taken all)
+    ∙ ap (λ l. take count l ++ drop (before.taken + count) all) (sym is_rest)
+    ∙ ap (λ l. l ++ drop (before.taken + count) all) (sym is_front)
 
 pub found_bytes : (files : List Named) (name : List ℕ) (found : Option ℕ)
     → IfSome found (IsPlaceOf files name)

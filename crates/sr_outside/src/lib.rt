@@ -2,9 +2,10 @@
 //!
 //! Both may fail at any call. Each counts its faults, so that a contract can say that a fault is answered
 //! only where one was counted. What they hold is told to contracts as options: inputs and sinks in memory tell
-//! everything, files and standard output tell no bytes.
+//! everything and fail where they are asked to, files and standard output tell no bytes.
 #![tactic(auto)]
 
+mod failing;
 mod files;
 mod inputs;
 mod memory;

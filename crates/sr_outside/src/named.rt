@@ -1,5 +1,5 @@
 //! Files in memory, each a name with its bytes.
-ghost use Rattle.std.specs.Prelude.{◌≡◌, ◌<◌, ◌≤◌, ◌^◌, ℕ, min, take, drop, List, length, IfOk, OnOk, OnErr, None, Some, IfSome, IfNone, if◌then◌else◌};
+ghost use Rattle.std.specs.Prelude.{◌≡◌, ◌<◌, ◌≤◌, ◌^◌, ℕ, min, take, drop, List, length, IfOk, OnOk, OnErr, None, Some, IfSome, IfNone, IsSome, if◌then◌else◌};
 ghost use Rattle.std.specs.List.{position};
 ghost use Rattle.std.specs.Option.{ForSome};
 ghost use Rattle.std.specs.Str.{bytes_eq};
@@ -127,12 +127,24 @@ pub fn rest_of(files: &[File], last: Option<usize>, taken: usize) -> &[u8]
     }
 }
 
-// Fills a buffer from the front of some bytes, and answers how many it took.
-pub fn fill(into: &mut [u8], from: &[u8]) -> usize
-    ensures count { result ≡ min (length from.now) (length into.old) }
+// The name of the file at this place.
+pub fn name_of(files: &[File], last: Option<usize>) -> &[u8]
+    requires place { ForSome last (λ place. place < length files.now) }
+    requires some { IsSome last }
+    ensures { name_at files.now last ≡ Some result.now }
+{
+    match last {
+        Some(place) => files[place].name(),
+        None => unreachable!(),
+    }
+}
+
+// Fills a buffer from the front of some bytes, with at most `most` of them, and answers how many it took.
+pub fn fill(into: &mut [u8], from: &[u8], most: usize) -> usize
+    ensures count { result ≡ min most (min (length from.now) (length into.old)) }
     ensures front { take result into.new ≡ take result from.now }
 {
-    let count = from.len().min(into.len());
+    let count = most.min(from.len().min(into.len()));
     into[..count].copy_from_slice(&from[..count]);
     count
 }

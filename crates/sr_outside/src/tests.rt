@@ -1,4 +1,5 @@
-//! Each public call once, the room of a sink, and the real thing: a file of 3 MB, a missing one, standard output.
+//! Each public call once, each call on an input failing in turn, the room of a sink and its short puts, and the real
+//! thing: a file of 3 MB, a missing one, standard output.
 use crate::{
     Failed, FileInputs, MemInputs, MemSink, ReadRefusal, Sink, StdSink, WriteFault, read_whole,
     write_all,
@@ -40,6 +41,33 @@ fn reads_from_memory(rt: HostRuntime) -> Result<(), Fail> {
 }
 
 #[test]
+fn fails_each_call_in_turn(rt: HostRuntime) -> Result<(), Fail> {
+    // Twelve bytes by five are a start and four reads, the last of which gives none; past nine it reads twice.
+    for call in 0..6 {
+        let mut inputs = MemInputs::new(rt.alloc());
+        inputs.add("text", b"twelve bytes")?;
+        inputs.add("other", b"another text")?;
+        inputs.most(5);
+        inputs.fail("text", call)?;
+        let whole = read_whole(rt.alloc(), &mut inputs, "text", 12);
+        if call < 5 {
+            expect_text(&rt, whole, Err(ReadRefusal::Fault));
+        } else {
+            expect_text(&rt, whole, Ok(b"twelve bytes".as_slice()));
+        }
+        let other = read_whole(rt.alloc(), &mut inputs, "other", 12);
+        expect_text(&rt, other, Ok(b"another text".as_slice()));
+        let long = read_whole(rt.alloc(), &mut inputs, "text", 9);
+        if call < 3 {
+            expect_text(&rt, long, Err(ReadRefusal::Fault));
+        } else {
+            expect_text(&rt, long, Err(ReadRefusal::TooLong));
+        }
+    }
+    Ok(())
+}
+
+#[test]
 fn writes_to_memory(rt: HostRuntime) -> Result<(), Fail> {
     for (room, want, written) in [
         (0, Err(WriteFault), b"".as_slice()),
@@ -63,6 +91,18 @@ fn stops_at_its_room(rt: HostRuntime) -> Result<(), Fail> {
     assert_eq!(rt; sink.put(b"d"), Err(Failed));
     assert_eq!(rt; sink.put(b"d"), Err(Failed));
     assert_eq!(rt; sink.bytes(), b"abc".as_slice());
+    Ok(())
+}
+
+#[test]
+fn puts_three_at_most(rt: HostRuntime) -> Result<(), Fail> {
+    let mut sink = MemSink::new(rt.alloc(), 8)?;
+    sink.most(3);
+    assert_eq!(rt; sink.put(b"ab"), Ok(2));
+    assert_eq!(rt; sink.put(b"cdefg"), Ok(3));
+    assert_eq!(rt; write_all(&mut sink, b"fghij"), Err(WriteFault));
+    assert_eq!(rt; sink.put(b"i"), Err(Failed));
+    assert_eq!(rt; sink.bytes(), b"abcdefgh".as_slice());
     Ok(())
 }
 

@@ -3,11 +3,11 @@ use Rattle.sr_model.specs.Closure.{IsClosed}
 use Rattle.plain_close.specs.Circuit.{unrolled}
 use Rattle.plain_close.specs.Table.{known_lits}
 use Rattle.plain_close.specs.Sweep.{Grows}
-use Rattle.plain_close.proofs.Growing.{Grows-itself, Grows-closed, circuit_grows-then}
+use Rattle.plain_close.proofs.Growing.{Grows-closed, circuit_grows-then}
 use Rattle.plain_close.proofs.sweeps.close.Goals as goal
 
 pub loop-init : goal.loop-init
-loop-init c = Grows-itself (unrolled c.args.gates.now c.args.known.now.cycles) c.args.known.now
+loop-init c = c.grow.ensures
 
 pub returns-then-not-sweep-clause-closed : goal.returns-then-not-sweep-clause-closed
 returns-then-not-sweep-clause-closed c =

@@ -48,7 +48,7 @@ pub returns-clause-closed : goal.returns-clause-closed
 returns-clause-closed c none =
     let all : List Gate = c.args.gates.now in
     let k : Table = c.loop-step.known in
-    let signals : c.signals-signals.result ≡ k.signals = c.signals-signals.ensures.signals ∙ sym c.loop-step.invariant.grows.size.0 in
+    let signals : c.signals-signals.result ≡ k.signals = c.signals-signals.ensures ∙ sym c.loop-step.invariant.grows.size.0 in
     let cycles : c.cycles.result ≡ k.cycles = c.cycles.ensures.cycles ∙ sym c.loop-step.invariant.grows.size.1 in
     let size : k.signals ≡ length all = c.loop-step.invariant.grows.size.0 ∙ c.requires.size in
     let closed_at : (j : ℕ) → j < k.cycles * k.signals → IsClosedAt (unrolled all k.cycles) (place_at k.signals (number_at c.args.backwards (k.cycles * k.signals) j)) k =

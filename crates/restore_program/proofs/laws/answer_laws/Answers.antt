@@ -1,4 +1,4 @@
-use Rattle.restore_program.proofs.OneAnswer.{one_answer, accepted_is_answered}
+use Rattle.restore_program.proofs.OneAnswer.{one_answer, accepted_is_answered, printable_is_printed}
 use Rattle.restore_program.proofs.laws.answer_laws.Goals as goal
 
 pub returns-clause-one_answer : goal.returns-clause-one_answer
@@ -6,3 +6,6 @@ returns-clause-one_answer c = one_answer
 
 pub returns-clause-accepted : goal.returns-clause-accepted
 returns-clause-accepted c = accepted_is_answered
+
+pub returns-clause-printable : goal.returns-clause-printable
+returns-clause-printable c = printable_is_printed

@@ -1,31 +1,18 @@
-use Rattle.std.proofs.Common.{◌≡◌, true, false, List, subst}
-use Rattle.std.specs.Prelude.{IfSome, IsNone, Contains}
-use Rattle.sr_model.specs.declared.cells.Cell.{Cell}
+use Rattle.std.proofs.Common.{◌≡◌, ◌<◌, ◌≤◌, sym, subst}
+use Rattle.std.specs.List.{All}
 use Rattle.sr_model.specs.declared.cells.Lit.{Lit}
-use Rattle.sr_model.specs.Declaration.{declared}
-use Rattle.sr_model.specs.Netlist.{Unrolled}
-use Rattle.sr_model.specs.Closure.{Closure, HasBoth, SameLits}
-use Rattle.bench_reader.specs.FirstForm.{unrolled_over}
-use Rattle.restore_program.proofs.Answering.{closed_table, no_clash_in}
+use Rattle.std.proofs.Common.{length}
+use Rattle.restore_program.specs.Answer.{OnLits}
+use Rattle.restore_program.proofs.Answering.{on_dump}
+use Rattle.restore_program.proofs.DumpLits.{all_within}
 use Rattle.restore_program.proofs.restore.closed_reply.Goals as goal
 
-pub table-requires-clause-no_clash : goal.table-requires-clause-no_clash
-table-requires-clause-no_clash c =
-    let u : Unrolled = unrolled_over (declared c.args.s.now) c.args.dump.now.cycles in
-    let base : List Lit = c.args.dump.now.lits.items in
-    let same : SameLits (Contains c.in-Ok-Some.known.items) (Closure u (Contains base)) =
-    subst (λ found. IfSome found (λ known. SameLits (Contains known.items) (Closure u (Contains base)))) c.in-Ok-Some.field-0-is c.in-Ok-Some.ensures.closure in
-    let none : (cell : Cell) × HasBoth (Closure u (Contains base)) cell → true ≡ false =
-    subst (λ found. (cell : Cell) × HasBoth (Closure u (Contains base)) cell → IsNone found) c.in-Ok-Some.field-0-is c.in-Ok-Some.ensures.clash.1 in
-    no_clash_in u base c.in-Ok-Some.known.items same none
+pub restored_reply-requires-clause-within : goal.restored_reply-requires-clause-within
+restored_reply-requires-clause-within c =
+    subst (λ n. All (λ (l : Lit). (l.cell.sig.0 < length c.args.n.now.drivers) × (l.cell.cycle < n)) c.in-Ok.lits.items) (sym c.cycles.ensures.value)
+    (all_within c.args.dump.now.rows (length c.args.n.now.drivers) c.args.dump.now.cycles c.in-Ok.lits.items c.requires.within c.cycles.ensures.recording.full c.in-Ok.ensures)
 
-pub returns-in-Ok : goal.returns-in-Ok
-returns-in-Ok c =
-    let u : Unrolled = unrolled_over (declared c.args.s.now) c.args.dump.now.cycles in
-    let base : List Lit = c.args.dump.now.lits.items in
-    let same : SameLits (Contains c.in-Ok-Some.known.items) (Closure u (Contains base)) =
-    subst (λ found. IfSome found (λ known. SameLits (Contains known.items) (Closure u (Contains base)))) c.in-Ok-Some.field-0-is c.in-Ok-Some.ensures.closure in
-    let none : (cell : Cell) × HasBoth (Closure u (Contains base)) cell → true ≡ false =
-    subst (λ found. (cell : Cell) × HasBoth (Closure u (Contains base)) cell → IsNone found) c.in-Ok-Some.field-0-is c.in-Ok-Some.ensures.clash.1 in
-    closed_table (declared c.args.s.now) c.args.dump.now.cycles base c.in-Ok-Some.known.items c.in-Ok.text.items same
-    (no_clash_in u base c.in-Ok-Some.known.items same none) c.in-Ok.ensures
+pub returns-in-Ok-clause-answer : goal.returns-in-Ok-clause-answer
+returns-in-Ok-clause-answer c bytes text =
+    on_dump c.args.n.now bytes c.args.dump.now c.in-Ok.lits.items c.restored_reply.result text c.requires.simple c.in-Ok.ensures
+    (subst (λ n. OnLits c.args.n.now n c.in-Ok.lits.items c.restored_reply.result) c.cycles.ensures.value c.restored_reply.ensures)

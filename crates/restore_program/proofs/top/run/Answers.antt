@@ -3,11 +3,12 @@ use Rattle.std.specs.Prelude.{IfSome}
 use Rattle.std.specs.String.{string_bytes}
 use Rattle.std.specs.Io.KnownBytes.{append_known}
 use Rattle.restore_program.specs.Reply.{clash_line, status_of, text_of}
-use Rattle.restore_program.specs.Sound.{Finishes, IsAccepted, NoneMatches}
+use Rattle.restore_program.specs.Sound.{Finishes, IsAccepted, IsPrintable, NoneMatches}
+use Rattle.restore_program.specs.declared.status.Status.TheVariants as statuses
 use Rattle.sr_outside.specs.Told.{Held}
-use Rattle.restore_program.specs.Answer.{Says}
+use Rattle.restore_program.specs.Answer.{IsPlain, Says}
 use Rattle.restore_program.proofs.Answering.{says}
-use Rattle.restore_program.proofs.Sounding.{sound_reply, clash_reply, appended_is, finishes}
+use Rattle.restore_program.proofs.Sounding.{sound_reply, clash_reply, appended_is, finishes, prints}
 use Rattle.restore_program.proofs.top.run.Goals as goal
 
 pub returns-in-Ok-clause-answer : goal.returns-in-Ok-clause-answer
@@ -21,10 +22,10 @@ returns-in-Ok-clause-answer g c _ =
     )
 
 pub returns-in-Ok-clause-sound : goal.returns-in-Ok-clause-sound
-returns-in-Ok-clause-sound g c e = (
+returns-in-Ok-clause-sound g c e asks = (
   text_of c.reply_to-reply.result,
   c.in-Ok.ensures.written,
-  sound_reply (map string_bytes c.args.words.now) (g.I.Inputs.held c.args.inputs.now) c.reply_to-reply.result c.reply_to-reply.ensures.answer (sym c.reply_status.ensures ∙ e),
+  sound_reply (map string_bytes c.args.words.now) (g.I.Inputs.held c.args.inputs.now) c.reply_to-reply.result asks c.reply_to-reply.ensures.answer (sym c.reply_status.ensures ∙ e),
 )
 
 pub returns-in-Ok-clause-contradiction : goal.returns-in-Ok-clause-contradiction
@@ -40,6 +41,12 @@ returns-in-Ok-clause-accepted g c =
     (sym c.reply_status.ensures)
     (finishes (g.K.Sink.written c.write_reply.new.out ≡ append_known (g.K.Sink.written c.args.out.now) clash_line) words (g.I.Inputs.held c.args.inputs.now) c.reply_to-reply.result c.reply_to-reply.ensures.answer
     (λ line. c.in-Ok.ensures.written ∙ ap (append_known (g.K.Sink.written c.args.out.now)) line))
+
+pub returns-in-Ok-clause-printed : goal.returns-in-Ok-clause-printed
+returns-in-Ok-clause-printed g c =
+    let words : List (List ℕ) = map string_bytes c.args.words.now in
+    subst (λ status. IfSome (g.I.Inputs.held c.args.inputs.now) (λ held. IsPrintable words held → IsPlain status → status ≡ statuses.Done)) (sym c.reply_status.ensures)
+    (prints words (g.I.Inputs.held c.args.inputs.now) c.reply_to-reply.result c.reply_to-reply.ensures.answer)
 
 pub returns-clause-part : goal.returns-clause-part
 returns-clause-part g c _ = (

@@ -4,7 +4,7 @@ use Rattle.std.specs.String.{string_bytes}
 use Rattle.std.proofs.lemmas.Bool.{eqb-true, eq-eqb}
 use Rattle.std.proofs.lemmas.List.{length-map, get_or-map}
 use Rattle.std.proofs.lemmas.Slice.Eq.{bytes_eq-Decides}
-use Rattle.restore_program.proofs.ThreeWords.{three_words, words_three}
+use Rattle.restore_program.proofs.CommandWords.{three_words, words_three}
 use Rattle.restore_program.proofs.words.is_restore.Goals as goal
 
 pub returns-then-words-eq3 : goal.returns-then-words-eq3

@@ -1,0 +1,10 @@
+pub mod Front
+pub mod Literals
+pub mod Printing
+pub mod ReadBack
+pub mod ReadSoFar
+pub mod RefusedOnce
+pub mod Rows
+pub mod SameRows
+pub mod StatedRows
+pub mod Tokens

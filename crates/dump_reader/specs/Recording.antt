@@ -1,0 +1,40 @@
+-- What a dump records.
+use Rattle.std.specs.Prelude.{ℕ, ◌≡◌, ◌≢◌, ◌≤◌, Bool, true, false, List, [], ◌∷◌, length, map, take, drop, Option, Some, None}
+use Rattle.std.specs.List.{All, AllPairs}
+use Rattle.sr_model.specs.declared.cells.Sig.{Sig}
+use Rattle.sr_model.specs.Dump.{Row}
+use Rattle.dump_reader.specs.declared.dump.Tri.{Tri}
+use Rattle.dump_reader.specs.declared.dump.Tri.TheVariants.{Zero, One, X}
+
+-- what a dump records: so many cycles, and the rows of some signals
+pub record Recording : Type 0 where
+  pub cycles : ℕ
+  pub rows : List Row
+
+-- the bit of a cell, or none for x
+abbrev pub bit_of : Tri → Option Bool
+bit_of Zero = Some false
+bit_of One = Some true
+bit_of X = None
+
+-- the row of a signal with these cells
+abbrev pub row_of : Sig → List Tri → Row
+row_of sig cells = record { sig = sig; bits = map bit_of cells }
+
+-- the rows of these signals, whose cells stand one row behind the other
+abbrev pub rows_of : ℕ → List Sig → List Tri → List Row
+rows_of cycles [] cells = []
+rows_of cycles (sig ∷ sigs) cells = row_of sig (take cycles cells) ∷ rows_of cycles sigs (drop cycles cells)
+
+-- the signals that have a row, in the order of the rows
+abbrev pub recorded : List Row → List Sig
+recorded rows = map (λ row. row.sig) rows
+
+abbrev pub IsCount : ℕ → Type 0
+IsCount cycles = (1 ≤ cycles) × (cycles ≤ 8192)
+
+-- 1 to 8,192 cycles, a bit or none for each cycle in each row, and no signal with two rows
+pub record IsRecording (r : Recording) : Type 0 where
+  pub count : IsCount r.cycles
+  pub full : All (λ row. length row.bits ≡ r.cycles) r.rows
+  pub once : AllPairs (λ a b. a ≢ b) (recorded r.rows)

@@ -1,0 +1,11 @@
+pub mod Checks
+pub mod Circuit
+pub mod Driving
+pub mod Edges
+pub mod Indexed
+pub mod Laws
+pub mod Loops
+pub mod Numbering
+pub mod Ranking
+pub mod Ranks
+pub mod Wiring

@@ -1,0 +1,85 @@
+-- What a netlist's drivers say of each signal: what drives it, its pins and its readers.
+use Rattle.std.specs.Prelude.{ℕ, ◌≡◌, ◌+◌, ◌<◌, ◌≤◌, ◌==◌, ⊤, Bool, true, false, List, [], length, map, Option, Some, None, slice_index_or, take, drop}
+use Rattle.std.specs.List.{All, filter, list_any, range_with_len, sum_by}
+use Rattle.sr_model.specs.declared.gates.Kind.{Kind}
+use Rattle.sr_model.specs.declared.gates.Kind.TheVariants.{Dff}
+use Rattle.sr_model.specs.declared.cells.Sig.{Sig}
+use Rattle.sr_model.specs.Gate.{IsPinCount}
+use Rattle.sr_model.specs.Netlist.{Driver, Input, Driven}
+use Rattle.netlist.specs.declared.wiring.Node.{Node}
+
+-- what drives signal s
+abbrev pub driver_at : List Driver → ℕ → Driver
+driver_at drivers s = slice_index_or drivers s Input
+
+-- the kind of gate, or flip-flop; none for an input
+abbrev pub kind_of : Driver → Option Kind
+kind_of Input = None
+kind_of (Driven kind pins) = Some kind
+
+-- the pins from left to right; none for an input
+abbrev pub pins_of : Driver → List Sig
+pins_of Input = []
+pins_of (Driven kind pins) = pins
+
+-- the number of pins over all
+abbrev pub pin_sum : List Driver → ℕ
+pin_sum drivers = sum_by (λ driver. length (pins_of driver)) drivers
+
+-- driven by a flip-flop
+abbrev pub is_flip_flop : Driver → Bool
+is_flip_flop Input = false
+is_flip_flop (Driven Dff pins) = true
+is_flip_flop (Driven _ pins) = false
+
+-- driven by a gate
+abbrev pub is_gate : Driver → Bool
+is_gate Input = false
+is_gate (Driven Dff pins) = false
+is_gate (Driven _ pins) = true
+
+-- the signals with numbers below n, ascending
+abbrev pub signals_below : ℕ → List Sig
+signals_below n = map (λ s. record { 0 = s }) (range_with_len 0 n)
+
+-- the signals that a flip-flop drives, ascending
+abbrev pub flip_flops : List Driver → List Sig
+flip_flops drivers = filter (λ s. is_flip_flop (driver_at drivers s.0)) (signals_below (length drivers))
+
+-- whether s is among the pins
+abbrev pub reads : Driver → Sig → Bool
+reads driver s = list_any (λ pin. pin.0 == s.0) (pins_of driver)
+
+-- the signals whose gate or flip-flop reads s, each once, ascending
+abbrev pub readers : List Driver → Sig → List Sig
+readers drivers s = filter (λ t. reads (driver_at drivers t.0) s) (signals_below (length drivers))
+
+-- each pin is a signal of the netlist
+abbrev pub IsWired : List Driver → Type 0
+IsWired drivers = All (λ driver. All (λ pin. pin.0 < length drivers) (pins_of driver)) drivers
+
+-- the kind may have so many pins
+abbrev pub HasPinCount : Driver → Type 0
+HasPinCount Input = ⊤
+HasPinCount (Driven kind pins) = IsPinCount kind (length pins)
+
+-- and so for each driver
+abbrev pub HasPinCounts : List Driver → Type 0
+HasPinCounts drivers = All HasPinCount drivers
+
+-- with no kind an input, else the kind with these pins
+abbrev pub driver_by : Option Kind → List Sig → Driver
+driver_by None pins = Input
+driver_by (Some kind) pins = Driven kind pins
+
+-- what a node says with the flat list of pins
+abbrev pub driver_of : List Sig → Node → Driver
+driver_of pins node = driver_by node.kind (take node.pin_count (drop node.first_pin pins))
+
+-- its pins lie in a flat list of so many, and an input has none
+abbrev pub IsNodeWithin : ℕ → Node → Type 0
+IsNodeWithin pin_total node = (node.first_pin + node.pin_count ≤ pin_total) × (node.kind ≡ None → node.pin_count ≡ 0)
+
+-- the drivers in order of their nodes
+abbrev pub drivers_from : List Sig → List Node → List Driver
+drivers_from pins nodes = map (driver_of pins) nodes

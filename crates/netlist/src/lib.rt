@@ -1,0 +1,18 @@
+//! A netlist: its signals with their names and numbers, what drives each, and the rules that it keeps.
+#![tactic(auto)]
+
+mod checks;
+mod edges;
+mod laws;
+mod loops;
+mod names;
+mod netlist;
+mod numbers;
+mod ranks;
+#[cfg(test)]
+mod tests;
+mod wiring;
+
+pub use checks::{NetRefusal, are_statements};
+pub use laws::{circuit_laws, numbering_laws, rank_laws, refusal_laws};
+pub use netlist::{Netlist, build};

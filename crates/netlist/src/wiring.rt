@@ -1,0 +1,140 @@
+//! The pins and readers of each signal in flat arrays.
+ghost use Rattle.std.specs.Prelude.{◌≡◌, ◌<◌, ◌≤◌, List, length, IfOk};
+ghost use Rattle.std.specs.List.{All};
+ghost use Rattle.netlist.specs.Wiring.{driver_at, kind_of, pins_of, readers, flip_flops, is_flip_flop, IsWired, IsNodeWithin, driver_of, drivers_from};
+ghost use Rattle.sr_model.specs.declared.cells.Sig.{Sig as AnySig};
+
+use crate::edges::{edges_of, grouped_readers, starts_of};
+use sr_model::{Kind, NoMemory, Sequence, Sig};
+use std::alloc::Global;
+use std::marker::Model;
+
+/// Where a signal's pins lie in the flat list of pins: from `first_pin` on, `pin_count` of them. An input has no kind and no pins.
+#[derive(Clone, Copy)]
+pub(crate) struct Node {
+    pub(crate) kind: Option<Kind>,
+    pub(crate) first_pin: u32,
+    pub(crate) pin_count: u32,
+}
+
+impl Node {
+    fn is_flip_flop(&self) -> bool
+        ensures { (pins : List AnySig) → result ≡ is_flip_flop (driver_of pins self.now) }
+    {
+        matches!(self.kind, Some(Kind::Dff))
+    }
+}
+
+/// The pins and readers of each signal in flat arrays; contracts see the list of drivers.
+#[derive(Drop)]
+pub(crate) struct Wiring {
+    nodes: Vec<Node>,
+    pins: Vec<Sig>,
+    /// Where the readers of each signal begin in `reader_sigs`, and after the last signal their end.
+    reader_starts: Vec<usize>,
+    reader_sigs: Vec<Sig>,
+    flip_flop_sigs: Vec<Sig>,
+}
+
+impl Model for Wiring {
+    ghost use Rattle.std.specs.Prelude.{List};
+    ghost use Rattle.sr_model.specs.Netlist.{Driver};
+    ghost use Rattle.netlist.specs.Wiring.{drivers_from};
+    ghost use Rattle.netlist.specs.Indexed.{IsIndexed};
+
+    ghost Value = { List Driver };
+
+    ghost view = { λ w. drivers_from w.pins.items w.nodes.items };
+
+    ghost invariant = { λ w. IsIndexed w.pins.items w.nodes.items w.reader_starts.items w.reader_sigs.items w.flip_flop_sigs.items };
+}
+
+impl Wiring {
+    /// The netlist of these nodes and pins.
+    ///
+    /// Time is linear in the number of signals and pins. Besides what it is given it keeps eight bytes a signal, four a pin and eight a flip-flop at most,
+    /// and while it runs it takes eight more of each signal and of each pin.
+    pub(crate) fn new(alloc: Global, nodes: Vec<Node>, pins: Vec<Sig>) -> Result<Wiring, NoMemory>
+        requires nodes { All (IsNodeWithin (length pins.items)) nodes.items }
+        requires pins { All (λ pin. pin.0 < length nodes.items) pins.items }
+        requires few { length nodes.items ≤ 65536 }
+        ensures { IfOk result (λ w. w ≡ drivers_from pins.items nodes.items) }
+    {
+        let flip_flop_sigs = flip_flops_of(alloc, &nodes)?;
+        let edges = edges_of(alloc, &nodes, &pins)?;
+        let reader_starts = starts_of(alloc, edges.as_slice(), nodes.len())?;
+        let reader_sigs = grouped_readers(alloc, edges.as_slice(), &reader_starts)?;
+        Ok(Wiring {
+            nodes,
+            pins,
+            reader_starts,
+            reader_sigs,
+            flip_flop_sigs,
+        })
+    }
+
+    /// How many signals there are.
+    pub(crate) fn signals(&self) -> u32
+        ensures count { result ≡ length self.now }
+        ensures few { result ≤ 65536 }
+        ensures wired { IsWired self.now }
+    {
+        self.nodes.len() as u32
+    }
+
+    /// The kind of gate, or flip-flop, that drives the signal; None for an input.
+    pub(crate) fn kind_of(&self, s: Sig) -> Option<Kind>
+        requires { s.0 < length self.now }
+        ensures { result ≡ kind_of (driver_at self.now s.0) }
+    {
+        self.nodes[s.0 as usize].kind
+    }
+
+    /// The pins of the gate or flip-flop that drives the signal, from left to right; none for an input.
+    pub(crate) fn pins_of(&self, s: Sig) -> &[Sig]
+        requires { s.0 < length self.now }
+        ensures { result.now ≡ pins_of (driver_at self.now s.0) }
+    {
+        pins_at(self.nodes[s.0 as usize], &self.pins)
+    }
+
+    /// The signals whose gate or flip-flop reads the signal, each once, ascending.
+    pub(crate) fn readers(&self, s: Sig) -> &[Sig]
+        requires { s.0 < length self.now }
+        ensures { result.now ≡ readers self.now s }
+    {
+        let start = self.reader_starts[s.0 as usize];
+        let end = self.reader_starts[s.0 as usize + 1];
+        &self.reader_sigs[start..end]
+    }
+
+    /// The signals that a flip-flop drives, ascending.
+    pub(crate) fn flip_flops(&self) -> &[Sig]
+        ensures { result.now ≡ flip_flops self.now }
+    {
+        &self.flip_flop_sigs
+    }
+}
+
+/// A node's pins, from left to right.
+pub(crate) fn pins_at(node: Node, pins: &[Sig]) -> &[Sig]
+    requires { IsNodeWithin (length pins.now) node }
+    ensures { result.now ≡ pins_of (driver_of pins.now node) }
+{
+    let first = node.first_pin as usize;
+    &pins[first..first + node.pin_count as usize]
+}
+
+/// The signals that a flip-flop drives, ascending.
+fn flip_flops_of(alloc: Global, nodes: &[Node]) -> Result<Vec<Sig>, NoMemory>
+    requires few { length nodes.now ≤ 65536 }
+    ensures { IfOk result (λ sigs. (pins : List AnySig) → sigs.items ≡ flip_flops (drivers_from pins nodes.now)) }
+{
+    let mut sigs = Sequence::new(alloc);
+    for (s, node) in nodes.iter().enumerate() {
+        if node.is_flip_flop() {
+            sigs.push(Sig(s as u32))?;
+        }
+    }
+    Ok(sigs.into_vec())
+}

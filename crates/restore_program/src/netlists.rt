@@ -1,0 +1,67 @@
+//! From the name of a netlist to the netlist.
+ghost use Rattle.std.specs.Prelude.{◌≡◌, ◌≢◌, ◌<◌, ◌≤◌, length, IfOk, IfErr, OnOk, IfSome};
+ghost use Rattle.sr_outside.specs.Counts.{IsCounted};
+ghost use Rattle.sr_outside.specs.Told.{IsSteady};
+ghost use Rattle.restore_program.specs.Answer.{most_bytes, IsFault, IsNetlistFault, IsNetlistOf, IsNetlistText, OnFault, OnRefused, RefusedNetlist, Replies, unread_reply};
+
+use crate::reply::{Part, Reply};
+use bench_reader::read_bench;
+use netlist::{Netlist, build};
+use sr_outside::{Inputs, ReadRefusal, read_whole};
+use std::alloc::Global;
+
+/// The most bytes of a netlist or a dump.
+pub(crate) const MOST_BYTES: u64 = 16_777_216;
+
+/// The netlist of this name, or what is written in its place.
+pub(crate) fn read_netlist<I: Inputs>(
+    alloc: Global,
+    inputs: &mut I,
+    name: &str,
+) -> Result<Netlist, Reply>
+    ensures netlist { IfOk result (λ n. IfSome (I.held inputs.old) (λ held. IsNetlistOf held name.now n)) }
+    ensures refused { IfErr result (λ reply. IfSome (I.held inputs.old) (λ held. Replies (OnRefused held name.now) reply)) }
+    ensures fault_of { IfErr result (OnFault (IsNetlistFault (I.held inputs.old) (I.shaky inputs.old) name.now)) }
+    ensures not_usage { IfErr result (λ reply. reply ≢ Reply.Usage) }
+    ensures held { I.held inputs.new ≡ I.held inputs.old }
+    ensures shaky { I.shaky inputs.new ≡ I.shaky inputs.old }
+    ensures fault { IfErr result (λ reply. IsFault reply → IsCounted (I.faults inputs.old) (I.faults inputs.new)) }
+    ensures uncounted { OnOk result (I.faults inputs.new ≡ I.faults inputs.old) }
+    ensures rose { I.faults inputs.old < I.faults inputs.new → IfErr result IsFault }
+    ensures never_falls { I.faults inputs.old ≤ I.faults inputs.new }
+    ensures steady { IsSteady (I.held inputs.old) (I.shaky inputs.old) name.now → I.faults inputs.new ≡ I.faults inputs.old }
+{
+    match read_whole(alloc, inputs, name, MOST_BYTES) {
+        Ok(text) => parse_netlist(alloc, text.as_slice()),
+        Err(refusal) => Err(unread(Part::Netlist, refusal)),
+    }
+}
+
+/// What is written of an input that was not read.
+pub(crate) fn unread(part: Part, refusal: ReadRefusal) -> Reply
+    ensures { result ≡ unread_reply part refusal }
+{
+    match refusal {
+        ReadRefusal::Fault => Reply::Fault { part },
+        ReadRefusal::TooLong => Reply::TooLong { part },
+        ReadRefusal::NoMemory => Reply::NoMemory,
+    }
+}
+
+/// The netlist of a text, or what is written in its place.
+fn parse_netlist(alloc: Global, bytes: &[u8]) -> Result<Netlist, Reply>
+    requires short { length bytes.now ≤ most_bytes }
+    ensures netlist { IfOk result (IsNetlistText bytes.now) }
+    ensures refused { IfErr result (Replies (RefusedNetlist bytes.now)) }
+    ensures not_usage { IfErr result (λ reply. reply ≢ Reply.Usage) }
+    ensures no_fault { IfErr result (λ reply. ¬ (IsFault reply)) }
+{
+    let statements = match read_bench(alloc, bytes) {
+        Ok(statements) => statements,
+        Err(refusal) => return Err(Reply::Bench { refusal }),
+    };
+    match build(alloc, &statements) {
+        Ok(netlist) => Ok(netlist),
+        Err(refusal) => Err(Reply::Net { refusal }),
+    }
+}

@@ -1,0 +1,2 @@
+pub mod ReadsDecimal
+pub mod Tokens
