@@ -1,17 +1,17 @@
 -- What the flat arrays say of the drivers.
-use Rattle.std.proofs.Common.{ℕ, ◌≡◌, ◌+◌, ◌-◌, ◌<◌, ◌≤◌, ltb, slice_index, Some, None, Option, List, length, get_or, take, drop, arith, sym, ap, ◌∙◌, subst}
-use Rattle.std.proofs.lemmas.List.{length-map, get_or_read}
+use Rattle.std.proofs.Common.{ℕ, ◌≡◌, ◌+◌, ◌-◌, ◌<◌, ◌≤◌, ltb, slice_index, slice_index_or, Some, None, Option, List, [], length, get_or, take, drop, arith, sym, ap, ◌∙◌, subst}
+use Rattle.std.proofs.lemmas.List.{length-map, get_or_read, get_or-map}
+use Rattle.std.proofs.lemmas.List.FromFn.{length-range_with_len, get_or-range_with_len}
 use Rattle.std.proofs.lemmas.List.Elements.{All-map, All-nil, All-take, All-drop}
 use Rattle.std.proofs.lemmas.List.Sums.{count_by-le-length}
-use Rattle.std.specs.List.{All}
+use Rattle.std.specs.List.{All, range_with_len}
 use Rattle.sr_model.specs.declared.gates.Kind.{Kind}
 use Rattle.sr_model.specs.declared.cells.Sig.{Sig}
 use Rattle.netlist.specs.declared.wiring.Node.{Node}
-use Rattle.netlist.specs.declared.edges.Edge.{Edge}
-use Rattle.netlist.specs.Indexed.{IsIndexed}
-use Rattle.netlist.specs.Edges.{readers_in, count_below, part_of}
-use Rattle.netlist.specs.Wiring.{driver_by, driver_of, drivers_from, pins_of, readers, flip_flops, IsWired, IsNodeWithin}
-use Rattle.netlist.proofs.ReaderParts.{count_below-le}
+use Rattle.netlist.specs.declared.lists.Entry.{Entry}
+use Rattle.netlist.specs.Entries.{count_below, part_of, lists_from, AreParts}
+use Rattle.netlist.specs.Wiring.{driver_by, driver_of, drivers_from, pins_of, IsWired}
+use Rattle.netlist.proofs.ListParts.{count_below-le}
 
 driver_by-pins : (P : Sig → Type 0) (kind : Option Kind) (pins : List Sig) → All P pins → All P (pins_of (driver_by kind pins))
 driver_by-pins P None pins all = All-nil P
@@ -37,27 +37,33 @@ part-read starts sigs s start end h first second =
     ap (λ n. take (end - n) (drop n sigs)) (get_or_read starts s start before first 0)
     ∙ ap (λ n. take (n - slice_index starts s) (drop (slice_index starts s) sigs)) (get_or_read starts (s + 1) end h second 0)
 
--- the arrays, where they were made from the netlist's edges
-pub IsIndexed-from : (pins : List Sig) (nodes : List Node) (starts : List ℕ) (reader_list flip_flop_list : List Sig) (edges : List Edge)
-    → length nodes ≤ 65536 → All (IsNodeWithin (length pins)) nodes → All (λ pin. pin.0 < length nodes) pins
-    → length starts ≡ length nodes + 1 → ((s : ℕ) → s ≤ length nodes → slice_index starts s ≡ count_below edges s)
-    → length reader_list ≡ length edges → ((s : ℕ) → s + 1 < length starts → part_of starts reader_list s ≡ readers_in edges s)
-    → ((s : ℕ) → readers_in edges s ≡ readers (drivers_from pins nodes) (record { 0 = s })) → flip_flop_list ≡ flip_flops (drivers_from pins nodes)
-    → IsIndexed pins nodes starts reader_list flip_flop_list
-IsIndexed-from pins nodes starts reader_list flip_flop_list edges few within wired size counted total parts found all = record {
-  few = few;
-  within = within;
-  wired = wired;
-  starts_for_all = size;
+-- the parts of lists whose starts count the entries before them
+pub AreParts-from : (starts : List ℕ) (entries : List Entry) (lists total : ℕ) → length starts ≡ lists + 1 → ((s : ℕ) → s ≤ lists → slice_index starts s ≡ count_below entries s)
+    → total ≡ length entries → AreParts starts total
+AreParts-from starts entries lists total size counted all = record {
+  has_end = omega arith;
   ascending = λ s h.
-      let first : slice_index starts s ≡ count_below edges s = counted s (omega arith) in
-      let second : slice_index starts (s + 1) ≡ count_below edges (s + 1) = counted (s + 1) (omega arith) in
-      let order : count_below edges s ≤ count_below edges (s + 1) = count_below-le edges s (s + 1) (omega arith) in
+      let first : slice_index starts s ≡ count_below entries s = counted s (omega arith) in
+      let second : slice_index starts (s + 1) ≡ count_below entries (s + 1) = counted (s + 1) (omega arith) in
+      let order : count_below entries s ≤ count_below entries (s + 1) = count_below-le entries s (s + 1) (omega arith) in
       omega arith;
-  parts_within = λ s h.
-      let second : slice_index starts (s + 1) ≡ count_below edges (s + 1) = counted (s + 1) (omega arith) in
-      let most : count_below edges (s + 1) ≤ length edges = count_by-le-length (λ r. ltb r.pin.0 (s + 1)) edges in
+  within = λ s h.
+      let second : slice_index starts (s + 1) ≡ count_below entries (s + 1) = counted (s + 1) (omega arith) in
+      let most : count_below entries (s + 1) ≤ length entries = count_by-le-length (λ r. ltb r.list.0 (s + 1)) entries in
       omega arith;
-  readers_in_parts = λ s h. parts s (omega arith) ∙ found s;
-  all_flip_flops = all;
 }
+
+-- how many lists there are
+pub number_of_lists : (starts : List ℕ) (sigs : List Sig) → length (lists_from starts sigs) ≡ length starts - 1
+number_of_lists starts sigs = length-map (range_with_len 0 (length starts - 1)) (part_of starts sigs) ∙ length-range_with_len 0 (length starts - 1)
+
+zero-add : (s : ℕ) → 0 + s ≡ s
+zero-add s = omega arith
+
+-- one of them
+pub lists_from-at : (starts : List ℕ) (sigs : List Sig) (s : ℕ) → s + 1 < length starts → slice_index_or (lists_from starts sigs) s [] ≡ part_of starts sigs s
+lists_from-at starts sigs s h =
+    let below : s < length starts - 1 = omega arith in
+    let within : s < length (range_with_len 0 (length starts - 1)) = subst (λ n. s < n) (sym (length-range_with_len 0 (length starts - 1))) below in
+    let place : get_or (range_with_len 0 (length starts - 1)) s 0 ≡ s = get_or-range_with_len 0 (length starts - 1) s 0 below ∙ zero-add s in
+    get_or-map (part_of starts sigs) (range_with_len 0 (length starts - 1)) s 0 [] within ∙ ap (part_of starts sigs) place

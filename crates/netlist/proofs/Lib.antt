@@ -14,9 +14,9 @@ pub mod Places
 pub mod Placing
 pub mod Progress
 pub mod Ranking
-pub mod ReaderCounts
-pub mod ReaderParts
-pub mod ReaderStarts
+pub mod ListCounts
+pub mod ListParts
+pub mod ListStarts
 pub mod Refusals
 pub mod Settling
 pub mod Statements

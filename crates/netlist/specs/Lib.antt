@@ -1,7 +1,7 @@
 pub mod Checks
 pub mod Circuit
 pub mod Driving
-pub mod Edges
+pub mod Entries
 pub mod Indexed
 pub mod Laws
 pub mod Loops

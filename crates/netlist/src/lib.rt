@@ -2,13 +2,14 @@
 #![tactic(auto)]
 
 mod checks;
-mod edges;
 mod laws;
+mod lists;
 mod loops;
 mod names;
 mod netlist;
 mod numbers;
 mod ranks;
+mod readers;
 #[cfg(test)]
 mod tests;
 mod wiring;

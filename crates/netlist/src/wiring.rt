@@ -4,7 +4,8 @@ ghost use Rattle.std.specs.List.{All};
 ghost use Rattle.netlist.specs.Wiring.{driver_at, kind_of, pins_of, readers, flip_flops, is_flip_flop, IsWired, IsNodeWithin, driver_of, drivers_from};
 ghost use Rattle.sr_model.specs.declared.cells.Sig.{Sig as AnySig};
 
-use crate::edges::{edges_of, grouped_readers, starts_of};
+use crate::lists::SigLists;
+use crate::readers::reader_entries;
 use sr_model::{Kind, NoMemory, Sequence, Sig};
 use std::alloc::Global;
 use std::marker::Model;
@@ -30,9 +31,7 @@ impl Node {
 pub(crate) struct Wiring {
     nodes: Vec<Node>,
     pins: Vec<Sig>,
-    /// Where the readers of each signal begin in `reader_sigs`, and after the last signal their end.
-    reader_starts: Vec<usize>,
-    reader_sigs: Vec<Sig>,
+    readers: SigLists,
     flip_flop_sigs: Vec<Sig>,
 }
 
@@ -46,7 +45,7 @@ impl Model for Wiring {
 
     ghost view = { λ w. drivers_from w.pins.items w.nodes.items };
 
-    ghost invariant = { λ w. IsIndexed w.pins.items w.nodes.items w.reader_starts.items w.reader_sigs.items w.flip_flop_sigs.items };
+    ghost invariant = { λ w. IsIndexed w.pins.items w.nodes.items w.readers w.flip_flop_sigs.items };
 }
 
 impl Wiring {
@@ -61,14 +60,12 @@ impl Wiring {
         ensures { IfOk result (λ w. w ≡ drivers_from pins.items nodes.items) }
     {
         let flip_flop_sigs = flip_flops_of(alloc, &nodes)?;
-        let edges = edges_of(alloc, &nodes, &pins)?;
-        let reader_starts = starts_of(alloc, edges.as_slice(), nodes.len())?;
-        let reader_sigs = grouped_readers(alloc, edges.as_slice(), &reader_starts)?;
+        let entries = reader_entries(alloc, &nodes, &pins)?;
+        let readers = SigLists::new(alloc, entries.as_slice(), nodes.len())?;
         Ok(Wiring {
             nodes,
             pins,
-            reader_starts,
-            reader_sigs,
+            readers,
             flip_flop_sigs,
         })
     }
@@ -103,9 +100,7 @@ impl Wiring {
         requires { s.0 < length self.now }
         ensures { result.now ≡ readers self.now s }
     {
-        let start = self.reader_starts[s.0 as usize];
-        let end = self.reader_starts[s.0 as usize + 1];
-        &self.reader_sigs[start..end]
+        self.readers.get(s)
     }
 
     /// The signals that a flip-flop drives, ascending.
