@@ -5,7 +5,7 @@ use Rattle.std.specs.List.{filter}
 use Rattle.sr_model.specs.declared.cells.Sig.{Sig}
 use Rattle.netlist.specs.declared.wiring.Node.{Node}
 use Rattle.netlist.specs.Wiring.{driver_at, driver_of, drivers_from, is_flip_flop, signals_below}
-use Rattle.netlist.proofs.EachReader.{driver_at-node}
+use Rattle.netlist.proofs.EachItem.{driver_at-node}
 
 -- the flip-flops among the signals below n
 abbrev pub flip_flops_below : List Sig → List Node → ℕ → List Sig

@@ -1,12 +1,12 @@
 pub mod Circuits
 pub mod Driving
-pub mod EachReader
+pub mod EachItem
 pub mod FlatArrays
 pub mod FlipFlopList
 pub mod Levels
 pub mod Marks
 pub mod Once
-pub mod OneReader
+pub mod OneItem
 pub mod OneRefusal
 pub mod Outputs
 pub mod PinCounts
@@ -19,6 +19,7 @@ pub mod ListParts
 pub mod ListStarts
 pub mod Refusals
 pub mod Settling
+pub mod SignalLists
 pub mod Statements
 pub mod Texts
 pub mod Walks

@@ -103,7 +103,7 @@ pub signals_member : (n s : ℕ) → s < n → Contains (signals_below n) (numbe
 signals_member n s h =
     (s, (let size : length (signals_below n) ≡ n = length-map-range_with_len number 0 n in omega arith), get_or-map-range_with_len number 0 n s s (number s) h (omega arith))
 
-signals_within : (n : ℕ) → All (λ s. s.0 < n) (signals_below n)
+pub signals_within : (n : ℕ) → All (λ s. s.0 < n) (signals_below n)
 signals_within n = All-map (λ s. s.0 < n) number (range_with_len 0 n) (λ k d h.
     let size : length (range_with_len 0 n) ≡ n = length-range_with_len 0 n in
     let below : k < n = omega arith in

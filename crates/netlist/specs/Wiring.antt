@@ -1,5 +1,5 @@
 -- What a netlist's drivers say of each signal: what drives it, its pins and its readers.
-use Rattle.std.specs.Prelude.{ℕ, ◌≡◌, ◌+◌, ◌<◌, ◌≤◌, ◌==◌, ⊤, Bool, true, false, List, [], length, map, Option, Some, None, slice_index_or, take, drop}
+use Rattle.std.specs.Prelude.{ℕ, ◌≡◌, ◌+◌, ◌<◌, ◌≤◌, ◌==◌, ◌&&◌, ◌||◌, ⊤, Bool, true, false, List, [], length, map, Option, Some, None, slice_index_or, take, drop}
 use Rattle.std.specs.List.{All, filter, list_any, range_with_len, sum_by}
 use Rattle.sr_model.specs.declared.gates.Kind.{Kind}
 use Rattle.sr_model.specs.declared.gates.Kind.TheVariants.{Dff}
@@ -53,6 +53,19 @@ reads driver s = list_any (λ pin. pin.0 == s.0) (pins_of driver)
 -- the signals whose gate or flip-flop reads s, each once, ascending
 abbrev pub readers : List Driver → Sig → List Sig
 readers drivers s = filter (λ t. reads (driver_at drivers t.0) s) (signals_below (length drivers))
+
+-- driven by a gate or flip-flop
+abbrev pub is_driven : Driver → Bool
+is_driven Input = false
+is_driven (Driven kind pins) = true
+
+-- whether s is t or among its pins, where a gate or flip-flop drives t
+abbrev pub has_signal : Driver → Sig → Sig → Bool
+has_signal driver t s = is_driven driver && (s.0 == t.0 || reads driver s)
+
+-- the signals of the gate or flip-flop that drives t: t and its pins, each once, ascending; none for an input
+abbrev pub signals_of : List Driver → Sig → List Sig
+signals_of drivers t = filter (has_signal (driver_at drivers t.0) t) (signals_below (length drivers))
 
 -- each pin is a signal of the netlist
 abbrev pub IsWired : List Driver → Type 0

@@ -10,6 +10,7 @@ mod netlist;
 mod numbers;
 mod ranks;
 mod readers;
+mod signals;
 #[cfg(test)]
 mod tests;
 mod wiring;

@@ -5,7 +5,7 @@ ghost use Rattle.netlist.specs.Checks.{IsRefusal};
 ghost use Rattle.netlist.specs.Circuit.{IsCircuit, IsNetlist, circuit_of};
 ghost use Rattle.netlist.specs.Numbering.{IsStatement};
 ghost use Rattle.netlist.specs.Ranks.{IsOrder};
-ghost use Rattle.netlist.specs.Wiring.{driver_at, kind_of, pins_of, readers, flip_flops};
+ghost use Rattle.netlist.specs.Wiring.{driver_at, kind_of, pins_of, readers, signals_of, flip_flops};
 
 use crate::checks::NetRefusal;
 use crate::loops::{Loop, gate_order};
@@ -135,6 +135,14 @@ impl Netlist {
         ensures { result.now ≡ readers self.now.drivers s }
     {
         self.wiring.readers(s)
+    }
+
+    /// The signals of the gate or flip-flop that drives a signal: that signal and its pins, each once, ascending; none for an input.
+    pub fn signals_of(&self, s: Sig) -> &[Sig]
+        requires { s.0 < length self.now.drivers }
+        ensures { result.now ≡ signals_of self.now.drivers s }
+    {
+        self.wiring.signals_of(s)
     }
 
     /// The signals that gates drive, by rank and then by number: inputs and flip-flops have rank 0, and a gate has one more than the greatest rank of its pins.

@@ -2,9 +2,9 @@
 ghost use Rattle.std.specs.Prelude.{ℕ, ◌≡◌, ◌≢◌, ◌+◌, ◌<◌, ◌≤◌, ◌++◌, ◌∷◌, [], if◌then◌else◌, length, slice_index, slice_index_or, Some, None, IfOk, OnOk};
 ghost use Rattle.std.specs.List.{All};
 ghost use Rattle.netlist.specs.Wiring.{readers, IsNodeWithin, drivers_from};
-ghost use Rattle.netlist.specs.Entries.{items_in, has_pin, count_of, count_below, part_of};
+ghost use Rattle.netlist.specs.Entries.{items_in, count_of, count_below, part_of};
 
-use crate::lists::Entry;
+use crate::lists::{Entry, push_item};
 use crate::wiring::{Node, pins_at};
 use sr_model::{NoMemory, Sequence, Sig};
 use std::alloc::Global;
@@ -24,41 +24,14 @@ pub(crate) fn reader_entries(
     ensures pins { IfOk result (λ found. All (λ r. r.list.0 < length nodes.now) found.items) }
 {
     let mut found = Sequence::with_room(alloc, pins.len())?;
-    let mut last_readers = vec![in alloc; None; nodes.len()].map_err(|_| NoMemory)?;
+    let mut last_items = vec![in alloc; None; nodes.len()].map_err(|_| NoMemory)?;
     for (reader, node) in nodes.iter().enumerate() {
-        push_reader(
+        push_item(
             &mut found,
-            &mut last_readers,
+            &mut last_items,
             Sig(reader as u32),
             pins_at(*node, pins),
         )?;
     }
     Ok(found)
-}
-
-/// Adds the entries of one reader. `last_readers` has the last reader of each signal, which is an earlier one.
-fn push_reader(
-    found: &mut Sequence<Entry>,
-    last_readers: &mut [Option<Sig>],
-    reader: Sig,
-    pins: &[Sig],
-) -> Result<(), NoMemory>
-    requires pins { All (λ pin. pin.0 < length last_readers.old) pins.now }
-    requires found { All (λ r. r.list.0 < length last_readers.old) found.old.items }
-    requires earlier { All (λ last. last ≢ Some reader) last_readers.old }
-    ensures readers { OnOk result ((s : ℕ) → items_in found.new.items s ≡ items_in found.old.items s ++ (if has_pin pins.now s then reader ∷ [] else [])) }
-    ensures last { OnOk result ((s : ℕ) → slice_index_or last_readers.new s None ≡ (if has_pin pins.now s then Some reader else slice_index_or last_readers.old s None)) }
-    ensures found { OnOk result (All (λ r. r.list.0 < length last_readers.old) found.new.items) }
-{
-    for pin in pins {
-        let last = &mut last_readers[pin.0 as usize];
-        if *last != Some(reader) {
-            *last = Some(reader);
-            found.push(Entry {
-                list: *pin,
-                item: reader,
-            })?;
-        }
-    }
-    Ok(())
 }

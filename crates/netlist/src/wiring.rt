@@ -1,11 +1,12 @@
 //! The pins and readers of each signal in flat arrays.
 ghost use Rattle.std.specs.Prelude.{◌≡◌, ◌<◌, ◌≤◌, List, length, IfOk};
 ghost use Rattle.std.specs.List.{All};
-ghost use Rattle.netlist.specs.Wiring.{driver_at, kind_of, pins_of, readers, flip_flops, is_flip_flop, IsWired, IsNodeWithin, driver_of, drivers_from};
+ghost use Rattle.netlist.specs.Wiring.{driver_at, kind_of, pins_of, readers, signals_of, flip_flops, is_flip_flop, IsWired, IsNodeWithin, driver_of, drivers_from};
 ghost use Rattle.sr_model.specs.declared.cells.Sig.{Sig as AnySig};
 
 use crate::lists::SigLists;
 use crate::readers::reader_entries;
+use crate::signals::signal_entries;
 use sr_model::{Kind, NoMemory, Sequence, Sig};
 use std::alloc::Global;
 use std::marker::Model;
@@ -32,6 +33,7 @@ pub(crate) struct Wiring {
     nodes: Vec<Node>,
     pins: Vec<Sig>,
     readers: SigLists,
+    signals: SigLists,
     flip_flop_sigs: Vec<Sig>,
 }
 
@@ -45,7 +47,7 @@ impl Model for Wiring {
 
     ghost view = { λ w. drivers_from w.pins.items w.nodes.items };
 
-    ghost invariant = { λ w. IsIndexed w.pins.items w.nodes.items w.readers w.flip_flop_sigs.items };
+    ghost invariant = { λ w. IsIndexed w.pins.items w.nodes.items w.readers w.signals w.flip_flop_sigs.items };
 }
 
 impl Wiring {
@@ -62,10 +64,13 @@ impl Wiring {
         let flip_flop_sigs = flip_flops_of(alloc, &nodes)?;
         let entries = reader_entries(alloc, &nodes, &pins)?;
         let readers = SigLists::new(alloc, entries.as_slice(), nodes.len())?;
+        let entries = signal_entries(alloc, &nodes, &pins, &readers)?;
+        let signals = SigLists::new(alloc, entries.as_slice(), nodes.len())?;
         Ok(Wiring {
             nodes,
             pins,
             readers,
+            signals,
             flip_flop_sigs,
         })
     }
@@ -101,6 +106,14 @@ impl Wiring {
         ensures { result.now ≡ readers self.now s }
     {
         self.readers.get(s)
+    }
+
+    /// The signals of the gate or flip-flop that drives the signal, the signal among them, each once, ascending; none for an input.
+    pub(crate) fn signals_of(&self, s: Sig) -> &[Sig]
+        requires { s.0 < length self.now }
+        ensures { result.now ≡ signals_of self.now s }
+    {
+        self.signals.get(s)
     }
 
     /// The signals that a flip-flop drives, ascending.

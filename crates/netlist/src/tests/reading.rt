@@ -5,8 +5,14 @@ use std::alloc::Global;
 use std::process::Abort;
 use std::test::Fail;
 
-/// A signal's name, the kind that drives it, its pins and its readers.
-type Wanted<'test> = (&'test [u8], Option<Kind>, &'test [Sig], &'test [Sig]);
+/// A signal's name, the kind that drives it, its pins, its readers, and the signals of what drives it.
+type Wanted<'test> = (
+    &'test [u8],
+    Option<Kind>,
+    &'test [Sig],
+    &'test [Sig],
+    &'test [Sig],
+);
 
 /// Small statements, and what stands in their netlist.
 #[derive(Clone, Copy)]
@@ -23,13 +29,14 @@ fn expect_case(rt: &impl Abort, alloc: Global, case: &Case<'_>) -> Result<(), Fa
     let statements = statements_of(alloc, case.rows)?;
     let netlist = built(rt, alloc, &statements)?;
     assert!(rt; case.signals.len() == netlist.signals() as usize);
-    for (number, (name, kind, pins, readers)) in case.signals.iter().enumerate() {
+    for (number, (name, kind, pins, readers, signals)) in case.signals.iter().enumerate() {
         let sig = Sig(number as u32);
         assert_eq!(rt; netlist.name(sig), *name);
         assert_eq!(rt; netlist.find(name), Some(sig));
         assert_eq!(rt; netlist.kind_of(sig), *kind);
         assert_eq!(rt; netlist.pins_of(sig), *pins);
         assert_eq!(rt; netlist.readers(sig), *readers);
+        assert_eq!(rt; netlist.signals_of(sig), *signals);
     }
     assert_eq!(rt; netlist.find(b"none"), None);
     assert_eq!(rt; netlist.inputs(), case.inputs);
@@ -57,14 +64,29 @@ fn small_netlists(rt: HostRuntime) -> Result<(), Fail> {
                 Row::Input(b"a"),
             ],
             signals: &[
-                (b"q", Some(Kind::Dff), &[Sig(1)], &[]),
-                (b"n", Some(Kind::Not), &[Sig(2)], &[Sig(0)]),
-                (b"a", None, &[], &[Sig(1)]),
+                (b"q", Some(Kind::Dff), &[Sig(1)], &[], &[Sig(0), Sig(1)]),
+                (
+                    b"n",
+                    Some(Kind::Not),
+                    &[Sig(2)],
+                    &[Sig(0)],
+                    &[Sig(1), Sig(2)],
+                ),
+                (b"a", None, &[], &[Sig(1)], &[]),
             ],
             inputs: &[Sig(2)],
             outputs: &[],
             flip_flops: &[Sig(0)],
             order: &[Sig(1)],
+        },
+        // a flip-flop that drives itself
+        Case {
+            rows: &[Row::Drive(b"q", Kind::Dff, &[b"q"])],
+            signals: &[(b"q", Some(Kind::Dff), &[Sig(0)], &[Sig(0)], &[Sig(0)])],
+            inputs: &[],
+            outputs: &[],
+            flip_flops: &[Sig(0)],
+            order: &[],
         },
         // outputs in another order than numbers, and one of them twice; a pin twice; gates from the highest rank down
         Case {
@@ -79,11 +101,29 @@ fn small_netlists(rt: HostRuntime) -> Result<(), Fail> {
                 Row::Drive(b"q", Kind::Dff, &[b"m"]),
             ],
             signals: &[
-                (b"m", Some(Kind::Nor), &[Sig(1), Sig(2), Sig(1)], &[Sig(3)]),
-                (b"n", Some(Kind::And), &[Sig(2), Sig(3), Sig(2)], &[Sig(0)]),
-                (b"a", None, &[], &[Sig(0), Sig(1)]),
-                (b"q", Some(Kind::Dff), &[Sig(0)], &[Sig(1)]),
-                (b"b", None, &[], &[]),
+                (
+                    b"m",
+                    Some(Kind::Nor),
+                    &[Sig(1), Sig(2), Sig(1)],
+                    &[Sig(3)],
+                    &[Sig(0), Sig(1), Sig(2)],
+                ),
+                (
+                    b"n",
+                    Some(Kind::And),
+                    &[Sig(2), Sig(3), Sig(2)],
+                    &[Sig(0)],
+                    &[Sig(1), Sig(2), Sig(3)],
+                ),
+                (b"a", None, &[], &[Sig(0), Sig(1)], &[]),
+                (
+                    b"q",
+                    Some(Kind::Dff),
+                    &[Sig(0)],
+                    &[Sig(1)],
+                    &[Sig(0), Sig(3)],
+                ),
+                (b"b", None, &[], &[], &[]),
             ],
             inputs: &[Sig(4), Sig(2)],
             outputs: &[Sig(3), Sig(0)],
