@@ -53,7 +53,7 @@ module _ (p t : Bool) (i : Instance) (and_like : IsAndLike p t i) where
       let holds : all_have p w i.pins ≡ true = list_all-from (λ c. beq (w c) p) i.pins (λ c h. beq-same (w c) p (all c h)) in
       and_like w ∙ cond-true (all_have p w i.pins) t (not t) holds
 
-  one_not_p : (w : Valuation) (c : Cell) → Contains i.pins c → w c ≡ not p → value i.kind (map w i.pins) ≡ not t
+  pub one_not_p : (w : Valuation) (c : Cell) → Contains i.pins c → w c ≡ not p → value i.kind (map w i.pins) ≡ not t
   one_not_p w c h other =
       elim (cases_Bool (all_have p w i.pins)) [
         | inl holds ↦ let e : beq (w c) p ≡ true = list_all-at (λ c. beq (w c) p) i.pins holds c h in absurd (true≢false (sym e ∙ beq-other (w c) p other))
@@ -69,7 +69,7 @@ module _ (p t : Bool) (i : Instance) (and_like : IsAndLike p t i) where
       ]
 
   module _ (known : Lit → Bool) (apart : Contains i.pins i.target → ⊥) where
-    pin_apart : (c : Cell) → Contains i.pins c → cell_eq c i.target ≡ false
+    pub pin_apart : (c : Cell) → Contains i.pins c → cell_eq c i.target ≡ false
     pin_apart c h = elim (cell_cases c i.target) [ inl e ↦ absurd (apart (subst (Contains i.pins) e h)) | inr fails ↦ fails ]
 
     -- a target whose t is not known may become not t, and likewise a pin whose p is not known
@@ -213,10 +213,10 @@ module _ (p t : Bool) (i : Instance) (and_like : IsAndLike p t i) where
         ]
 
     -- a valuation that has the bit p everywhere but at the target
-    row_p : IsRow i (put (λ _. p) i.target t)
+    pub row_p : IsRow i (put (λ _. p) i.target t)
     row_p = row_with i apart (λ _. p) t (sym (all_p (λ _. p) (λ c h. refl)))
 
-    p_at_pin : (c : Cell) → Contains i.pins c → put (λ _. p) i.target t c ≡ p
+    pub p_at_pin : (c : Cell) → Contains i.pins c → put (λ _. p) i.target t c ≡ p
     p_at_pin c h = put-other (λ _. p) i.target t c (pin_apart c h)
 
     on_cells_pin : (c : Cell) → Contains i.pins c → Contains (cells_of i) c

@@ -1,7 +1,17 @@
+pub mod AndExact
 pub mod AndKinds
 pub mod AndLike
 pub mod ClosureLaws
+pub mod Families
+pub mod FromNothing
 pub mod Instances
 pub mod Members
 pub mod Missed
+pub mod OddCells
+pub mod OddCounts
+pub mod OddPins
+pub mod Parity
 pub mod Rows
+pub mod XorChoice
+pub mod XorExact
+pub mod XorLike

@@ -1,6 +1,5 @@
 -- The rules miss what follows only from two gates together: n = NOT(a), o = OR(a, n) makes o 1 in every execution.
-use Rattle.std.proofs.Common.{◌≡◌, ℕ, zero, suc, ◌+◌, ◌||◌, Bool, true, false, not, List, [], ◌∷◌, arith, inl, inr, sym, subst, refl, ap, ◌∙◌, slice_index_or}
-use Rattle.std.specs.List.{Contains}
+use Rattle.std.proofs.Common.{◌≡◌, ℕ, zero, suc, ◌+◌, ◌||◌, Bool, true, false, not, List, [], ◌∷◌, arith, inl, inr, subst, refl, ap, ◌∙◌, slice_index_or}
 use Rattle.std.proofs.lemmas.Bool.{false≢true}
 use Rattle.sr_model.specs.declared.gates.Kind.TheVariants.{Not, Or}
 use Rattle.sr_model.specs.declared.cells.Sig.{Sig}
@@ -11,8 +10,7 @@ use Rattle.sr_model.specs.Netlist.{Input, Driven, Instance, Valuation, IsExecuti
 use Rattle.sr_model.specs.Closure.{Forces, Closure, IsClosed, passing, lit}
 use Rattle.sr_model.specs.Worked.{sig, cell, missed, nothing}
 use Rattle.sr_model.proofs.Members.{not_in_nil, Contains-cases, Contains-here}
-use Rattle.sr_model.specs.AndLike.{IsAndLike}
-use Rattle.sr_model.proofs.AndLike.{bit_cases, target_t, target_other, pin_p, pin_other}
+use Rattle.sr_model.proofs.FromNothing.{and_forces_nothing}
 use Rattle.sr_model.proofs.AndKinds.{not_is, or_gate_is}
 use Rattle.sr_model.proofs.ClosureLaws.{least}
 use Rattle.sr_model.proofs.Instances.{stands, Stands, instance_of}
@@ -25,23 +23,6 @@ always v runs =
       either : (b : Bool) → (b || (not b || false)) ≡ true
       either true = refl
       either false = refl
-
--- an and-like gate with a pin forces nothing from nothing
-and_forces_nothing : (p t : Bool) (i : Instance) → IsAndLike p t i → (Contains i.pins i.target → ⊥) → (c : Cell) → Contains i.pins c → (l : Lit) → Forces i (passing nothing) l → ⊥
-and_forces_nothing p t i and_like apart c has_pin l f =
-    elim (Contains-cases i.target i.pins l.cell f.on_cells) [
-      | inl e ↦
-          let g : Forces i (passing nothing) (lit i.target l.bit) = subst (λ d. Forces i (passing nothing) (lit d l.bit)) (sym e) f in
-          elim (bit_cases l.bit t) [
-            | inl b ↦ false≢true (target_t p t i and_like nothing apart (subst (λ b. Forces i (passing nothing) (lit i.target b)) b g) refl c has_pin)
-            | inr b ↦ false≢true (target_other p t i and_like nothing apart (subst (λ b. Forces i (passing nothing) (lit i.target b)) b g) refl).2
-          ]
-      | inr h ↦
-          elim (bit_cases l.bit p) [
-            | inl b ↦ false≢true (pin_p p t i and_like nothing apart l.cell h (subst (λ b. Forces i (passing nothing) (lit l.cell b)) b f) refl)
-            | inr b ↦ false≢true (pin_other p t i and_like nothing apart l.cell h (subst (λ b. Forces i (passing nothing) (lit l.cell b)) b f) refl)
-          ]
-    ]
 
 -- cells of different signals
 differ : (t s m n : ℕ) → (m ≡ n → ⊥) → cell_at t (sig m) ≡ cell_at s (sig n) → ⊥

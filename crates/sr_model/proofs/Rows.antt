@@ -1,14 +1,14 @@
 -- What a set of literals forces at one instance, by a row of it.
-use Rattle.std.proofs.Common.{◌≡◌, ◌⊎◌, ◌&&◌, Bool, true, false, cond, map, eqb, inl, inr, sym, subst, refl, ap, ◌∙◌}
+use Rattle.std.proofs.Common.{◌≡◌, ◌⊎◌, ◌&&◌, Bool, true, false, cond, [], ◌∷◌, map, eqb, inl, inr, sym, subst, refl, ap, ◌∙◌}
 use Rattle.std.specs.List.{Contains}
 use Rattle.std.proofs.lemmas.Bool.{eqb-true, eq-eqb, and_parts, and_from, cases_Bool, true≢false, cond-true, cond-false}
-use Rattle.std.proofs.lemmas.List.Elements.{All-contains}
+use Rattle.std.proofs.lemmas.List.Elements.{All-contains, All-head}
 use Rattle.sr_model.specs.declared.cells.Cell.{Cell}
 use Rattle.sr_model.specs.declared.cells.Lit.{Lit}
 use Rattle.sr_model.specs.Gate.{value}
-use Rattle.sr_model.specs.Netlist.{Instance, Valuation, IsRow, Has}
+use Rattle.sr_model.specs.Netlist.{Instance, cells_of, Valuation, IsRow, Has}
 use Rattle.sr_model.specs.Closure.{Forces, passing, lit}
-use Rattle.sr_model.proofs.Members.{map-agree, All-from_Contains}
+use Rattle.sr_model.proofs.Members.{map-agree, All-one, All-from_Contains}
 
 abbrev pub cell_eq : Cell → Cell → Bool
 cell_eq a b = eqb a.cycle b.cycle && eqb a.sig.0 b.sig.0
@@ -76,3 +76,16 @@ row_with i apart w bit e =
       | inr fails ↦ put-other w i.target bit c fails
     ]) in
     put-at w i.target bit ∙ e ∙ ap (value i.kind) (sym same)
+
+-- a known literal that some row has is forced
+pub known_forced : (known : Lit → Bool) (i : Instance) (l : Lit) → Contains (cells_of i) l.cell → known l ≡ true → (v : Valuation) → IsRow i v → Has v l → Forces i (passing known) l
+known_forced known i l on_cells is_known v is_row has = record {
+  on_cells = on_cells;
+  part = l ∷ [];
+  part_known = All-one (passing known) l is_known;
+  part_on_cells = All-one (λ x. Contains (cells_of i) x.cell) l on_cells;
+  row = v;
+  is_row = is_row;
+  row_agrees = All-one (Has v) l has;
+  forced = λ w w_is_row agrees. All-head (Has w) l [] agrees;
+}

@@ -7,3 +7,4 @@ pub mod Laws
 pub mod Netlist
 pub mod Room
 pub mod Worked
+pub mod XorLike
