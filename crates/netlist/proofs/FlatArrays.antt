@@ -11,6 +11,7 @@ use Rattle.netlist.specs.declared.wiring.Node.{Node}
 use Rattle.netlist.specs.declared.lists.Entry.{Entry}
 use Rattle.netlist.specs.Entries.{count_below, part_of, lists_from, AreParts}
 use Rattle.netlist.specs.Wiring.{driver_by, driver_of, drivers_from, pins_of, IsWired}
+use Rattle.netlist.proofs.ListStarts.{count_below-none}
 use Rattle.netlist.proofs.ListParts.{count_below-le}
 
 driver_by-pins : (P : Sig → Type 0) (kind : Option Kind) (pins : List Sig) → All P pins → All P (pins_of (driver_by kind pins))
@@ -18,7 +19,7 @@ driver_by-pins P None pins all = All-nil P
 driver_by-pins P (Some kind) pins all = all
 
 -- a node's pins are of the flat list
-driver_of-pins : (P : Sig → Type 0) (pins : List Sig) (node : Node) → All P pins → All P (pins_of (driver_of pins node))
+pub driver_of-pins : (P : Sig → Type 0) (pins : List Sig) (node : Node) → All P pins → All P (pins_of (driver_of pins node))
 driver_of-pins P pins node all =
     driver_by-pins P node.kind (take node.pin_count (drop node.first_pin pins)) (All-take P node.pin_count (drop node.first_pin pins) (All-drop P node.first_pin pins all))
 
@@ -51,6 +52,7 @@ AreParts-from starts entries lists total size counted all = record {
       let second : slice_index starts (s + 1) ≡ count_below entries (s + 1) = counted (s + 1) (omega arith) in
       let most : count_below entries (s + 1) ≤ length entries = count_by-le-length (λ r. ltb r.list.0 (s + 1)) entries in
       omega arith;
+  from_zero = counted 0 (omega arith) ∙ count_below-none entries;
 }
 
 -- how many lists there are

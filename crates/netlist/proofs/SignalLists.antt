@@ -20,7 +20,7 @@ abbrev sig : ℕ → Sig
 sig s = record { 0 = s }
 
 -- the signals below n have t where t is below n
-below-has : (n t : ℕ) → t < n → has_sig (signals_below n) t ≡ true
+pub below-has : (n t : ℕ) → t < n → has_sig (signals_below n) t ≡ true
 below-has n t h =
     let size : t < length (range_with_len 0 n) = subst (λ m. t < m) (sym (length-range_with_len 0 n)) h in
     let place : get_or (range_with_len 0 n) t 0 ≡ t = get_or-range_with_len 0 n t 0 h ∙ zero-add t in
@@ -56,7 +56,7 @@ reader-among drivers s t =
     ]
 
 -- what no gate or flip-flop drives reads nothing
-undriven-reads : (driver : Driver) (s : Sig) → is_driven driver ≡ false → reads driver s ≡ false
+pub undriven-reads : (driver : Driver) (s : Sig) → is_driven driver ≡ false → reads driver s ≡ false
 undriven-reads Input s h = refl
 undriven-reads (Driven kind pins) s h = absurd cc
 

@@ -1,20 +1,23 @@
 -- What the flat arrays of a netlist hold.
-use Rattle.std.specs.Prelude.{ℕ, ◌≡◌, ◌<◌, ◌≤◌, List, [], length, slice_index_or}
+use Rattle.std.specs.Prelude.{ℕ, ◌≡◌, ◌<◌, ◌≤◌, Bool, List, [], length, slice_index_or}
 use Rattle.std.specs.List.{All}
 use Rattle.sr_model.specs.declared.cells.Sig.{Sig}
 use Rattle.netlist.specs.declared.wiring.Node.{Node}
-use Rattle.netlist.specs.Wiring.{readers, signals_of, flip_flops, drivers_from, IsNodeWithin}
+use Rattle.netlist.specs.Entries.{AreMarksOf}
+use Rattle.netlist.specs.Wiring.{readers, other_readers, signals_of, pin_parities, flip_flops, drivers_from, IsNodeWithin}
 
 -- the lists are these, one for each of so many signals
 pub record AreListsOf (count : ℕ) (lists : List (List Sig)) (list_of : Sig → List Sig) : Type 0 where
   pub one_each : length lists ≡ count
   pub each : (s : ℕ) → s < count → slice_index_or lists s [] ≡ list_of (record { 0 = s })
 
--- the nodes and pins are a netlist's, and the readers and the signals of each signal and the flip-flops are those of its drivers
-pub record IsIndexed (pins : List Sig) (nodes : List Node) (reader_lists signal_lists : List (List Sig)) (flip_flop_list : List Sig) : Type 0 where
+-- the nodes and pins are a netlist's, and the readers, the other readers, the signals and the parities of each signal and the flip-flops are those of its drivers
+pub record IsIndexed (pins : List Sig) (nodes : List Node) (reader_lists other_lists signal_lists : List (List Sig)) (parities : List Bool) (flip_flop_list : List Sig) : Type 0 where
   pub few : length nodes ≤ 65536
   pub within : All (IsNodeWithin (length pins)) nodes
   pub wired : All (λ pin. pin.0 < length nodes) pins
   pub all_readers : AreListsOf (length nodes) reader_lists (readers (drivers_from pins nodes))
+  pub all_others : AreListsOf (length nodes) other_lists (other_readers (drivers_from pins nodes))
   pub all_signals : AreListsOf (length nodes) signal_lists (signals_of (drivers_from pins nodes))
+  pub all_parities : AreMarksOf signal_lists parities (pin_parities (drivers_from pins nodes))
   pub all_flip_flops : flip_flop_list ≡ flip_flops (drivers_from pins nodes)

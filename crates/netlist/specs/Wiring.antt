@@ -1,6 +1,6 @@
 -- What a netlist's drivers say of each signal: what drives it, its pins and its readers.
-use Rattle.std.specs.Prelude.{ℕ, ◌≡◌, ◌+◌, ◌<◌, ◌≤◌, ◌==◌, ◌&&◌, ◌||◌, ⊤, Bool, true, false, List, [], length, map, Option, Some, None, slice_index_or, take, drop}
-use Rattle.std.specs.List.{All, filter, list_any, range_with_len, sum_by}
+use Rattle.std.specs.Prelude.{ℕ, ◌≡◌, ◌+◌, ◌%◌, ◌<◌, ◌≤◌, ◌==◌, ◌&&◌, ◌||◌, ⊤, Bool, true, false, not, List, [], length, map, Option, Some, None, slice_index_or, take, drop}
+use Rattle.std.specs.List.{All, filter, list_any, count_by, range_with_len, sum_by}
 use Rattle.sr_model.specs.declared.gates.Kind.{Kind}
 use Rattle.sr_model.specs.declared.gates.Kind.TheVariants.{Dff}
 use Rattle.sr_model.specs.declared.cells.Sig.{Sig}
@@ -54,6 +54,10 @@ reads driver s = list_any (λ pin. pin.0 == s.0) (pins_of driver)
 abbrev pub readers : List Driver → Sig → List Sig
 readers drivers s = filter (λ t. reads (driver_at drivers t.0) s) (signals_below (length drivers))
 
+-- the signals other than s whose gate or flip-flop reads s, each once, ascending
+abbrev pub other_readers : List Driver → Sig → List Sig
+other_readers drivers s = filter (λ t. not (t.0 == s.0)) (readers drivers s)
+
 -- driven by a gate or flip-flop
 abbrev pub is_driven : Driver → Bool
 is_driven Input = false
@@ -66,6 +70,14 @@ has_signal driver t s = is_driven driver && (s.0 == t.0 || reads driver s)
 -- the signals of the gate or flip-flop that drives t: t and its pins, each once, ascending; none for an input
 abbrev pub signals_of : List Driver → Sig → List Sig
 signals_of drivers t = filter (has_signal (driver_at drivers t.0) t) (signals_below (length drivers))
+
+-- whether s stands an odd number of times among the pins
+abbrev pub is_odd_pin : Driver → Sig → Bool
+is_odd_pin driver s = count_by (λ pin. pin.0 == s.0) (pins_of driver) % 2 == 1
+
+-- and so for each of the signals of the gate or flip-flop that drives s, in their order
+abbrev pub pin_parities : List Driver → Sig → List Bool
+pin_parities drivers s = map (is_odd_pin (driver_at drivers s.0)) (signals_of drivers s)
 
 -- each pin is a signal of the netlist
 abbrev pub IsWired : List Driver → Type 0

@@ -8,6 +8,7 @@ mod loops;
 mod names;
 mod netlist;
 mod numbers;
+mod parities;
 mod ranks;
 mod readers;
 mod signals;

@@ -5,7 +5,7 @@ ghost use Rattle.netlist.specs.Checks.{IsRefusal};
 ghost use Rattle.netlist.specs.Circuit.{IsCircuit, IsNetlist, circuit_of};
 ghost use Rattle.netlist.specs.Numbering.{IsStatement};
 ghost use Rattle.netlist.specs.Ranks.{IsOrder};
-ghost use Rattle.netlist.specs.Wiring.{driver_at, kind_of, pins_of, readers, signals_of, flip_flops};
+ghost use Rattle.netlist.specs.Wiring.{driver_at, kind_of, pins_of, readers, other_readers, signals_of, pin_parities, flip_flops};
 
 use crate::checks::NetRefusal;
 use crate::loops::{Loop, gate_order};
@@ -137,12 +137,29 @@ impl Netlist {
         self.wiring.readers(s)
     }
 
+    /// The signals whose gate or flip-flop has the signal among its pins, other than the signal itself, each once, ascending.
+    pub fn other_readers(&self, s: Sig) -> &[Sig]
+        requires { s.0 < length self.now.drivers }
+        ensures { result.now ≡ other_readers self.now.drivers s }
+    {
+        self.wiring.other_readers(s)
+    }
+
     /// The signals of the gate or flip-flop that drives a signal: that signal and its pins, each once, ascending; none for an input.
     pub fn signals_of(&self, s: Sig) -> &[Sig]
         requires { s.0 < length self.now.drivers }
-        ensures { result.now ≡ signals_of self.now.drivers s }
+        ensures signals { result.now ≡ signals_of self.now.drivers s }
+        ensures few { length result.now ≤ 1025 }
     {
         self.wiring.signals_of(s)
+    }
+
+    /// For each of `signals_of`, in its order, whether it stands an odd number of times among the pins of the gate or flip-flop that drives the signal.
+    pub fn pin_parities(&self, s: Sig) -> &[bool]
+        requires { s.0 < length self.now.drivers }
+        ensures { result.now ≡ pin_parities self.now.drivers s }
+    {
+        self.wiring.pin_parities(s)
     }
 
     /// The signals that gates drive, by rank and then by number: inputs and flip-flops have rank 0, and a gate has one more than the greatest rank of its pins.

@@ -1,8 +1,8 @@
 //! The readers of each signal.
-ghost use Rattle.std.specs.Prelude.{ℕ, ◌≡◌, ◌≢◌, ◌+◌, ◌<◌, ◌≤◌, ◌++◌, ◌∷◌, [], if◌then◌else◌, length, slice_index, slice_index_or, Some, None, IfOk, OnOk};
-ghost use Rattle.std.specs.List.{All};
+ghost use Rattle.std.specs.Prelude.{ℕ, ◌≡◌, ◌<◌, ◌≤◌, ◌==◌, not, length, IfOk};
+ghost use Rattle.std.specs.List.{All, filter};
 ghost use Rattle.netlist.specs.Wiring.{readers, IsNodeWithin, drivers_from};
-ghost use Rattle.netlist.specs.Entries.{items_in, count_of, count_below, part_of};
+ghost use Rattle.netlist.specs.Entries.{items_in};
 
 use crate::lists::{Entry, push_item};
 use crate::wiring::{Node, pins_at};
@@ -34,4 +34,11 @@ pub(crate) fn reader_entries(
         )?;
     }
     Ok(found)
+}
+
+/// Leaves out each entry whose list is that of the item itself.
+pub(crate) fn keep_others(entries: &mut Vec<Entry>)
+    ensures { entries.new.items ≡ filter (λ r. not (r.item.0 == r.list.0)) entries.old.items }
+{
+    entries.retain(|entry| entry.item.0 != entry.list.0);
 }

@@ -1,5 +1,5 @@
 //! The signals of each gate and flip-flop.
-ghost use Rattle.std.specs.Prelude.{ℕ, ◌≡◌, ◌+◌, ◌<◌, ◌≤◌, ◌++◌, ◌∷◌, [], if◌then◌else◌, length, IfOk, OnOk};
+ghost use Rattle.std.specs.Prelude.{ℕ, ◌≡◌, ◌<◌, ◌≤◌, ◌++◌, ◌∷◌, [], if◌then◌else◌, length, IfOk, OnOk};
 ghost use Rattle.std.specs.List.{All};
 ghost use Rattle.netlist.specs.Wiring.{readers, signals_of, drivers_from, driver_by, is_driven};
 ghost use Rattle.netlist.specs.Entries.{items_in};
@@ -25,9 +25,9 @@ pub(crate) fn signal_entries(
     ensures signals { IfOk result (λ found. (t : ℕ) → items_in found.items t ≡ signals_of (drivers_from pins.now nodes.now) (record { 0 = t })) }
     ensures lists { IfOk result (λ found. All (λ r. r.list.0 < length nodes.now) found.items) }
 {
-    let mut found = Sequence::with_room(alloc, pins.len())?;
+    let mut found = Sequence::with_room(alloc, pins.len() + nodes.len())?;
     let mut last_items = vec![in alloc; None; nodes.len()].map_err(|_| NoMemory)?;
-    let mut lists = Vec::new(alloc);
+    let mut lists = Vec::with_capacity(alloc, nodes.len() + 1).map_err(|_| NoMemory)?;
     for (signal, node) in nodes.iter().enumerate() {
         let signal = Sig(signal as u32);
         lists.clear();

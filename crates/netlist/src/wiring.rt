@@ -1,11 +1,12 @@
 //! The pins and readers of each signal in flat arrays.
 ghost use Rattle.std.specs.Prelude.{◌≡◌, ◌<◌, ◌≤◌, List, length, IfOk};
 ghost use Rattle.std.specs.List.{All};
-ghost use Rattle.netlist.specs.Wiring.{driver_at, kind_of, pins_of, readers, signals_of, flip_flops, is_flip_flop, IsWired, IsNodeWithin, driver_of, drivers_from};
+ghost use Rattle.netlist.specs.Wiring.{driver_at, kind_of, pins_of, readers, other_readers, signals_of, pin_parities, flip_flops, is_flip_flop, IsWired, IsNodeWithin, driver_of, drivers_from};
 ghost use Rattle.sr_model.specs.declared.cells.Sig.{Sig as AnySig};
 
 use crate::lists::SigLists;
-use crate::readers::reader_entries;
+use crate::parities::parities_beside;
+use crate::readers::{keep_others, reader_entries};
 use crate::signals::signal_entries;
 use sr_model::{Kind, NoMemory, Sequence, Sig};
 use std::alloc::Global;
@@ -33,7 +34,10 @@ pub(crate) struct Wiring {
     nodes: Vec<Node>,
     pins: Vec<Sig>,
     readers: SigLists,
+    other_readers: SigLists,
     signals: SigLists,
+    /// Beside the lists of signals.
+    parities: Vec<bool>,
     flip_flop_sigs: Vec<Sig>,
 }
 
@@ -47,14 +51,14 @@ impl Model for Wiring {
 
     ghost view = { λ w. drivers_from w.pins.items w.nodes.items };
 
-    ghost invariant = { λ w. IsIndexed w.pins.items w.nodes.items w.readers w.signals w.flip_flop_sigs.items };
+    ghost invariant = { λ w. IsIndexed w.pins.items w.nodes.items w.readers w.other_readers w.signals w.parities.items w.flip_flop_sigs.items };
 }
 
 impl Wiring {
     /// The netlist of these nodes and pins.
     ///
-    /// Time is linear in the number of signals and pins. Besides what it is given it keeps eight bytes a signal, four a pin and eight a flip-flop at most,
-    /// and while it runs it takes eight more of each signal and of each pin.
+    /// Time is linear in the number of signals and pins. Besides what it is given it keeps 29 bytes a signal, 13 a pin and eight a flip-flop at most,
+    /// and while it runs it takes sixteen more a signal and eight more a pin.
     pub(crate) fn new(alloc: Global, nodes: Vec<Node>, pins: Vec<Sig>) -> Result<Wiring, NoMemory>
         requires nodes { All (IsNodeWithin (length pins.items)) nodes.items }
         requires pins { All (λ pin. pin.0 < length nodes.items) pins.items }
@@ -62,15 +66,21 @@ impl Wiring {
         ensures { IfOk result (λ w. w ≡ drivers_from pins.items nodes.items) }
     {
         let flip_flop_sigs = flip_flops_of(alloc, &nodes)?;
-        let entries = reader_entries(alloc, &nodes, &pins)?;
-        let readers = SigLists::new(alloc, entries.as_slice(), nodes.len())?;
+        let mut entries = reader_entries(alloc, &nodes, &pins)?.into_vec();
+        let readers = SigLists::new(alloc, &entries, nodes.len())?;
+        keep_others(&mut entries);
+        let other_readers = SigLists::new(alloc, &entries, nodes.len())?;
+        drop(entries);
         let entries = signal_entries(alloc, &nodes, &pins, &readers)?;
         let signals = SigLists::new(alloc, entries.as_slice(), nodes.len())?;
+        let parities = parities_beside(alloc, &nodes, &pins, &signals)?;
         Ok(Wiring {
             nodes,
             pins,
             readers,
+            other_readers,
             signals,
+            parities,
             flip_flop_sigs,
         })
     }
@@ -108,12 +118,28 @@ impl Wiring {
         self.readers.get(s)
     }
 
+    /// The signals whose gate or flip-flop reads the signal, other than the signal itself, each once, ascending.
+    pub(crate) fn other_readers(&self, s: Sig) -> &[Sig]
+        requires { s.0 < length self.now }
+        ensures { result.now ≡ other_readers self.now s }
+    {
+        self.other_readers.get(s)
+    }
+
     /// The signals of the gate or flip-flop that drives the signal, the signal among them, each once, ascending; none for an input.
     pub(crate) fn signals_of(&self, s: Sig) -> &[Sig]
         requires { s.0 < length self.now }
         ensures { result.now ≡ signals_of self.now s }
     {
         self.signals.get(s)
+    }
+
+    /// For each of `signals_of`, in its order, whether it stands an odd number of times among the pins.
+    pub(crate) fn pin_parities(&self, s: Sig) -> &[bool]
+        requires { s.0 < length self.now }
+        ensures { result.now ≡ pin_parities self.now s }
+    {
+        self.signals.beside(s, &self.parities)
     }
 
     /// The signals that a flip-flop drives, ascending.

@@ -8,7 +8,7 @@ use Rattle.sr_model.specs.Netlist.{Driver, Input}
 use Rattle.sr_model.proofs.Members.{not_in_nil, Contains-here, Contains-there, Contains-cases}
 use Rattle.netlist.specs.Circuit.{Circuit, IsCircuit as IsNetlist}
 use Rattle.netlist.specs.Wiring.{driver_at, pins_of, is_gate}
-use Rattle.netlist.specs.Loops.{HasNoLoop}
+use Rattle.netlist.proofs.OwnPin.{own_pin}
 use Rattle.plain_close.specs.declared.instances.Gate.{Gate}
 use Rattle.plain_close.specs.Circuit.{driver_of, HasProperPins, IsCircuit}
 use Rattle.plain_close.specs.declared.instances.Gate.TheVariants as gates
@@ -18,20 +18,6 @@ pub gates_more : (drivers : List Driver) (few more : List Gate) (s : ℕ) (gate 
     → map driver_of few ≡ take s drivers → driver_of gate ≡ driver_at drivers s → more ≡ few ++ gate ∷ [] → map driver_of more ≡ take (s + 1) drivers
 gates_more drivers few more s gate h before here e =
     ap (map driver_of) e ∙ map_push driver_of few gate ∙ ap (λ xs. xs ++ driver_of gate ∷ []) before ∙ ap (λ x. take s drivers ++ x ∷ []) here ∙ sym (take_more drivers s Input h)
-
--- a gate that is its own pin is on a loop
-own_pin : (drivers : List Driver) (s : Sig) → HasNoLoop drivers → is_gate (driver_at drivers s.0) ≡ true → Contains (pins_of (driver_at drivers s.0)) s → ⊥
-own_pin drivers s no_loop gate own =
-    let alone : List Sig = s ∷ [] in
-    let member : Contains alone s = Contains-here s [] in
-    no_loop s (record {
-      signals = alone;
-      each = λ t h. elim (Contains-cases s [] t h) [
-        | inl e ↦ subst (λ (x : Sig). (is_gate (driver_at drivers x.0) ≡ true) × ((pin : Sig) × Contains (pins_of (driver_at drivers x.0)) pin × Contains alone pin)) e (gate, (s, own, member))
-        | inr none ↦ absurd (not_in_nil t none)
-      ];
-      member = member;
-    })
 
 -- pins among so many signals, of a gate that is not its own pin
 proper_pins : (signals s : ℕ) (gate : Gate) → ((pin : Sig) → Contains (pins_of (driver_of gate)) pin → pin.0 < signals)
