@@ -1,0 +1,10 @@
+pub mod Masks
+pub mod BlockNumbers
+pub mod FlatMaps
+pub mod TaskBlocks
+pub mod TaskCells
+pub mod BlockLists
+pub mod AdjacentTasks
+pub mod ConstantTasks
+pub mod CellTests
+pub mod WordBits

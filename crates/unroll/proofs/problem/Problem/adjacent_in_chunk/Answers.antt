@@ -1,0 +1,21 @@
+use Rattle.std.proofs.Common.{◌-◌, arith, ap, ◌∙◌}
+use Rattle.netlist.specs.Circuit.{Circuit}
+use Rattle.netlist.specs.Wiring.{other_readers}
+use Rattle.unroll.proofs.AdjacentTasks.{reader-within, reader-at, none-at}
+use Rattle.unroll.proofs.problem.Problem.adjacent_in_chunk.Goals as goal
+
+pub task-requires-then-place-readers-clause-signal : goal.task-requires-then-place-readers-clause-signal
+task-requires-then-place-readers-clause-signal c =
+    let same = c.other_readers-readers.ensures ∙ ap (λ (x : Circuit). other_readers x.drivers c.args.s) c.net.ensures.net in
+    reader-within c.args.self.now.circuit.drivers c.args.s c.other_readers-readers.result.now same (c.args.i - c.own_count-own.result) _ c.if-place-readers.true
+
+pub returns-then-place-readers : goal.returns-then-place-readers
+returns-then-place-readers c =
+    let same = c.other_readers-readers.ensures ∙ ap (λ (x : Circuit). other_readers x.drivers c.args.s) c.net.ensures.net in
+    reader-at c.args.self.now c.args.s c.args.chunk c.args.i c.own_count-own.result c.own_count-own.ensures.count (omega arith) c.other_readers-readers.result.now same _ c.if-place-readers.true
+    c.task-then-place-readers.result c.task-then-place-readers.ensures.task
+
+pub returns-else-place-readers : goal.returns-else-place-readers
+returns-else-place-readers c =
+    let same = c.other_readers-readers.ensures ∙ ap (λ (x : Circuit). other_readers x.drivers c.args.s) c.net.ensures.net in
+    none-at c.args.self.now c.args.s c.args.chunk c.args.i c.own_count-own.result c.own_count-own.ensures.count (omega arith) c.other_readers-readers.result.now same (omega arith)

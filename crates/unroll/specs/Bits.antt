@@ -1,0 +1,21 @@
+-- Words of 64 bits, a bit for each cycle of a chunk.
+use Rattle.std.specs.Prelude.{ℕ, ◌+◌, ◌*◌, ◌/◌, ◌==◌, Bool, true, false, nat_lt}
+use Rattle.std.specs.Int.{bit_at}
+use Rattle.unroll.specs.declared.words.PinWord.{PinWord}
+
+-- whether bit i of the word is set
+unfoldable pub is_set : ℕ → ℕ → Bool
+is_set word i = bit_at word i == 1
+
+-- the word of a bit
+abbrev pub word_for : Bool → PinWord → ℕ
+word_for true words = words.one
+word_for false words = words.zero
+
+-- how many chunks of 64 cycles there are, the last one perhaps not full
+abbrev pub chunk_count : ℕ → ℕ
+chunk_count cycles = (cycles + 63) / 64
+
+-- whether there is a cycle for bit i of a chunk
+abbrev pub is_cycle : ℕ → ℕ → ℕ → Bool
+is_cycle cycles chunk i = nat_lt (64 * chunk + i) cycles

@@ -1,0 +1,4 @@
+pub mod Bits
+pub mod Problem
+pub mod Tasks
+pub mod Laws

@@ -1,0 +1,64 @@
+-- A netlist over a number of cycles, in blocks of 64 cycles.
+use Rattle.std.specs.Prelude.{ℕ, ◌+◌, ◌*◌, ◌/◌, ◌%◌, ◌≤◌, Bool, length}
+use Rattle.sr_model.specs.declared.cells.Cell.{Cell}
+use Rattle.sr_model.specs.declared.cells.Sig.{Sig}
+use Rattle.sr_model.specs.Netlist.{Driver, Unrolled}
+use Rattle.netlist.specs.Circuit.{Circuit, IsCircuit, unrolled_over}
+use Rattle.netlist.specs.Wiring.{driver_at, is_driven}
+use Rattle.unroll.specs.declared.problem.Block.{Block}
+use Rattle.unroll.specs.Bits.{chunk_count}
+
+-- what contracts see of a problem
+pub record Unrolling : Type 0 where
+  pub circuit : Circuit
+  pub cycles : ℕ
+
+-- the netlist over its cycles, of which the definitions speak
+abbrev pub unrolled : Unrolling → Unrolled
+unrolled u = unrolled_over u.circuit u.cycles
+
+abbrev pub signals_in : Unrolling → ℕ
+signals_in u = length u.circuit.drivers
+
+abbrev pub chunks_in : Unrolling → ℕ
+chunks_in u = chunk_count u.cycles
+
+abbrev pub blocks_in : Unrolling → ℕ
+blocks_in u = signals_in u * chunks_in u
+
+-- what every problem keeps
+pub record IsProblem (u : Unrolling) : Type 0 where
+  pub is_circuit : IsCircuit u.circuit
+  pub some_cycles : 1 ≤ u.cycles
+  pub few_cycles : u.cycles ≤ 8192
+  pub few_blocks : blocks_in u ≤ 4194304
+
+-- the block of a signal in a chunk: blocks go by signal and then by chunk
+abbrev pub block_at : Unrolling → Sig → ℕ → Block
+block_at u s chunk = record { 0 = s.0 * chunks_in u + chunk }
+
+-- a block's signal and chunk
+abbrev pub sig_at : Unrolling → Block → Sig
+sig_at u b = record { 0 = b.0 / chunks_in u }
+
+abbrev pub chunk_at : Unrolling → Block → ℕ
+chunk_at u b = b.0 % chunks_in u
+
+-- the block that has a cell, and the cell's bit in the block's words
+abbrev pub block_of : Unrolling → Cell → Block
+block_of u c = block_at u c.sig (c.cycle / 64)
+
+abbrev pub bit_of : Cell → ℕ
+bit_of c = c.cycle % 64
+
+-- the cell of a bit
+abbrev pub cell_of : Unrolling → Block → ℕ → Cell
+cell_of u b i = record { cycle = 64 * chunk_at u b + i; sig = sig_at u b }
+
+-- what drives a block's signal
+abbrev pub driver_in : Unrolling → Block → Driver
+driver_in u b = driver_at u.circuit.drivers (sig_at u b).0
+
+-- whether a gate or flip-flop drives the block's signal
+abbrev pub is_target : Unrolling → Block → Bool
+is_target u b = is_driven (driver_in u b)

@@ -1,0 +1,61 @@
+//! The tasks that a block is in.
+ghost use Rattle.std.specs.Prelude.{◌≡◌, ◌<◌, ◌≤◌, length, slice_get};
+ghost use Rattle.netlist.specs.Wiring.{driver_at};
+ghost use Rattle.unroll.specs.Problem.{chunks_in, blocks_in};
+ghost use Rattle.unroll.specs.Tasks.{adjacent_tasks, adjacent_from, own_tasks};
+
+use crate::problem::{Block, Problem, Task};
+use sr_model::{Kind, Sig};
+
+impl<'n> Problem<'n> {
+    /// The i-th of the tasks that a block is in, counted from 0; None from `adjacent_count` on. First come those of the block's own signal, where it is driven: of a
+    /// flip-flop the task in the chunk before, if there is one, and the task in this chunk; then those of its other readers in this chunk, ascending.
+    pub fn adjacent(&self, b: Block, i: u32) -> Option<Task>
+        requires { b.0 < blocks_in self.now }
+        ensures { result ≡ slice_get (adjacent_tasks self.now b) i }
+    {
+        self.adjacent_in_chunk(self.sig_of(b), self.chunk_of(b), i)
+    }
+
+    /// How many tasks a block is in.
+    pub fn adjacent_count(&self, b: Block) -> u32
+        requires { b.0 < blocks_in self.now }
+        ensures { result ≡ length (adjacent_tasks self.now b) }
+    {
+        let s = self.sig_of(b);
+        self.own_count(s, self.chunk_of(b)) + self.net().other_readers(s).len() as u32
+    }
+
+    /// The same as `adjacent` for the block of a signal in a chunk; there is no division.
+    pub fn adjacent_in_chunk(&self, s: Sig, chunk: u32, i: u32) -> Option<Task>
+        requires signal { s.0 < length self.now.circuit.drivers }
+        requires chunk { chunk < chunks_in self.now }
+        ensures { result ≡ slice_get (adjacent_from self.now s chunk) i }
+    {
+        let own = self.own_count(s, chunk);
+        if i < own {
+            let later = own - 1 - i;
+            return Some(self.task(s, chunk - later));
+        }
+        let readers = self.net().other_readers(s);
+        let place = (i - own) as usize;
+        if place < readers.len() {
+            Some(self.task(readers[place], chunk))
+        } else {
+            None
+        }
+    }
+
+    /// How many tasks of the signal itself a block of it is in.
+    fn own_count(&self, s: Sig, chunk: u32) -> u32
+        requires { s.0 < length self.now.circuit.drivers }
+        ensures count { result ≡ length (own_tasks self.now (driver_at self.now.circuit.drivers s.0) s chunk) }
+        ensures few { result ≤ 2 }
+    {
+        match self.net().kind_of(s) {
+            None => 0,
+            Some(Kind::Dff) if chunk > 0 => 2,
+            Some(_) => 1,
+        }
+    }
+}
