@@ -1,0 +1,15 @@
+pub mod AndLikeForced
+pub mod AndLikeSet
+pub mod AndLikeWords
+pub mod BlockPlaces
+pub mod Counting
+pub mod FlipFlopBlocks
+pub mod FlipFlopForced
+pub mod FlipFlopWords
+pub mod GateForced
+pub mod GateLanes
+pub mod KindRules
+pub mod LaneWords
+pub mod NewLiterals
+pub mod OddWords
+pub mod ParityExact

@@ -1,0 +1,91 @@
+-- What is forced is in time, and what of it the view does not have.
+use Rattle.std.proofs.Common.{ℕ, ◌≡◌, ◌+◌, ◌*◌, ◌/◌, ◌%◌, ◌<◌, ◌≤◌, ◌&&◌, Bool, true, not, List, length, get_or, set, get_or-set_other, length-set, arith, inl, inr, refl, sym, ap, ◌∙◌}
+use Rattle.std.specs.List.{AllPairs}
+use Rattle.std.proofs.lemmas.Bool.{cases_Bool, true≢false, and_parts, and_from, not-true, not_from_false, lt-ltb}
+use Rattle.sr_model.specs.declared.cells.Lit.{Lit}
+use Rattle.unroll.specs.declared.problem.Block.{Block}
+use Rattle.unroll.specs.declared.problem.Task.{Task}
+use Rattle.unroll.specs.declared.words.PinWord.{PinWord}
+use Rattle.unroll.specs.Bits.{is_set, word_for}
+use Rattle.unroll.specs.Problem.{Unrolling, chunk_at, sig_at, block_at, block_of, cell_of}
+use Rattle.unroll.proofs.BlockNumbers.{block-itself}
+use Rattle.unroll.proofs.TaskCells.{role, cell-in_time}
+use Rattle.gate_rules.specs.Lanes.{words_at}
+use Rattle.gate_rules.specs.Forced.{ForcedIn, IsForcedExactly, IsNewExactly, HasNoLaterBit, bit_at_place, lit_at_place, view_has, words_of}
+use Rattle.gate_rules.proofs.AndLikeSet.{set_next}
+use Rattle.gate_rules.proofs.BlockPlaces.{words_of-place}
+
+-- a forced literal is one of a cycle that is there
+pub forced-in_time : (u : Unrolling) (t : Task) (known : Lit → Bool) (l : Lit) → ForcedIn u t known l → l.cell.cycle < u.cycles
+forced-in_time u t known l f = cell-in_time u f.place l.cell (role u f.place f.forces.instance l.cell f.forces.stands f.forces.forces.on_cells)
+
+module _ (u : Unrolling) (t : Task) (blocks : List Block) (view words : List PinWord) where
+  pub no_later : IsForcedExactly u t blocks view words → HasNoLaterBit u blocks words
+  no_later exact j i bit within lane late =
+      elim (cases_Bool (bit_at_place words j bit i)) [
+        | inr unset ↦ unset
+        | inl set ↦
+            let l : Lit = lit_at_place u blocks j bit i in
+            let early : l.cell.cycle < u.cycles = forced-in_time u t (view_has u blocks view) l ((exact j i bit within lane).0 set) in
+            absurd (true≢false (sym (lt-ltb l.cell.cycle u.cycles early) ∙ late))
+      ]
+
+  -- in a cycle that is there, the view has the literal of a bit that is set
+  pub view-at : AllPairs (λ a b. a.0 < b.0) blocks → length view ≡ length blocks → (j i : ℕ) (bit : Bool) → j < length blocks → i < 64
+      → (lit_at_place u blocks j bit i).cell.cycle < u.cycles → view_has u blocks view (lit_at_place u blocks j bit i) ≡ bit_at_place view j bit i
+  view-at up size j i bit within lane early =
+      let b : Block = get_or blocks j (record { 0 = 0 }) in
+      let chunk : (64 * chunk_at u b + i) / 64 ≡ chunk_at u b = over (chunk_at u b) in
+      let place : (64 * chunk_at u b + i) % 64 ≡ i = rest (chunk_at u b) in
+      let block : block_of u (cell_of u b i) ≡ b = ap (block_at u (sig_at u b)) chunk ∙ block-itself u b in
+      ap (λ x. x && is_set (word_for bit (words_of blocks view (block_of u (cell_of u b i)))) ((64 * chunk_at u b + i) % 64)) (lt-ltb (64 * chunk_at u b + i) u.cycles early)
+      ∙ ap (λ (c : Block). is_set (word_for bit (words_of blocks view c)) ((64 * chunk_at u b + i) % 64)) block
+      ∙ ap (λ w. is_set (word_for bit w) ((64 * chunk_at u b + i) % 64)) (words_of-place blocks view up size j (record { 0 = 0 }) within)
+      ∙ ap (is_set (word_for bit (words_at view j))) place
+    where
+      over : (c : ℕ) → (64 * c + i) / 64 ≡ c
+      over c = omega (arith, lane)
+
+      rest : (c : ℕ) → (64 * c + i) % 64 ≡ i
+      rest c = omega (arith, lane)
+
+  -- the forced literals that the view does not have
+  pub new_exactly : (new : List PinWord) → AllPairs (λ a b. a.0 < b.0) blocks → length view ≡ length blocks → IsForcedExactly u t blocks view words
+      → ((j i : ℕ) (bit : Bool) → j < length blocks → i < 64 → bit_at_place new j bit i ≡ (bit_at_place words j bit i && not (bit_at_place view j bit i))) → IsNewExactly u t blocks view new
+  new_exactly new up size exact taken j i bit within lane = (
+    λ set.
+        let both : (bit_at_place words j bit i ≡ true) × (not (bit_at_place view j bit i) ≡ true) = and_parts (bit_at_place words j bit i) (not (bit_at_place view j bit i)) (sym (taken j i bit within lane) ∙ set) in
+        let forced : ForcedIn u t (view_has u blocks view) (lit_at_place u blocks j bit i) = (exact j i bit within lane).0 both.0 in
+        let early : (lit_at_place u blocks j bit i).cell.cycle < u.cycles = forced-in_time u t (view_has u blocks view) (lit_at_place u blocks j bit i) forced in
+        (forced, view-at up size j i bit within lane early ∙ not-true (bit_at_place view j bit i) both.1),
+    λ (forced, new).
+        let early : (lit_at_place u blocks j bit i).cell.cycle < u.cycles = forced-in_time u t (view_has u blocks view) (lit_at_place u blocks j bit i) forced in
+        taken j i bit within lane
+        ∙ and_from (bit_at_place words j bit i) (not (bit_at_place view j bit i)) ((exact j i bit within lane).1 forced)
+        (not_from_false (bit_at_place view j bit i) (sym (view-at up size j i bit within lane early) ∙ new)),
+  )
+
+-- The literals of the view were taken out of the words at the places below n.
+pub record TakenOut (before view after : List PinWord) (n : ℕ) : Type 0 where
+  pub size : length after ≡ length before
+  pub taken : (j i : ℕ) (bit : Bool) → j < n → i < 64 → bit_at_place after j bit i ≡ (bit_at_place before j bit i && not (bit_at_place view j bit i))
+  pub rest : (j : ℕ) → n ≤ j → words_at after j ≡ words_at before j
+
+pub none-taken : (before view : List PinWord) → TakenOut before view before 0
+none-taken before view = record {
+  size = refl;
+  taken = λ j i bit below lane. absurd (omega (arith, below));
+  rest = λ j past. refl;
+}
+
+-- at one place more
+pub more-taken : (before view now after : List PinWord) (n : ℕ) (word : PinWord) → TakenOut before view now n → n < length now → after ≡ set now n word
+    → ((i : ℕ) (bit : Bool) → i < 64 → is_set (word_for bit word) i ≡ (is_set (word_for bit (words_at now n)) i && not (is_set (word_for bit (words_at view n)) i)))
+    → TakenOut before view after (n + 1)
+more-taken before view now after n word so_far within is here = record {
+  size = ap length is ∙ length-set now n word ∙ so_far.size;
+  taken = λ j i bit below lane. set_next (λ k w. is_set (word_for bit w) i ≡ (bit_at_place before k bit i && not (bit_at_place view k bit i))) now after n word within is
+      (λ k earlier. so_far.taken k i bit earlier lane)
+      (here i bit lane ∙ ap (λ w. is_set (word_for bit w) i && not (bit_at_place view n bit i)) (so_far.rest n (omega arith))) j below;
+  rest = λ j past. ap (λ (ws : List PinWord). words_at ws j) is ∙ get_or-set_other now n j word (record { zero = 0; one = 0 }) (λ e. omega (arith, e, past)) ∙ so_far.rest j (omega (arith, past));
+}

@@ -1,0 +1,61 @@
+use Rattle.std.proofs.Common.{◌≡◌, ℕ, Some, List, length, sym, ap, ◌∙◌, subst}
+use Rattle.sr_model.specs.declared.cells.Sig.{Sig}
+use Rattle.sr_model.specs.Netlist.{Driver}
+use Rattle.netlist.specs.Circuit.{Circuit}
+use Rattle.netlist.specs.Wiring.{driver_at, kind_of, pins_of, pin_parities}
+use Rattle.unroll.specs.declared.problem.Block.{Block}
+use Rattle.unroll.specs.declared.words.PinWord.{PinWord}
+use Rattle.unroll.specs.Problem.{Unrolling, block_at}
+use Rattle.unroll.specs.Tasks.{task_at}
+use Rattle.gate_rules.specs.Forced.{IsForcedExactly}
+use Rattle.gate_rules.proofs.GateLanes.{kind-driver, count-odd, own-block}
+use Rattle.gate_rules.proofs.GateForced.{place-within, place-at, and_like-task, parity-task}
+use Rattle.gate_rules.proofs.gates.force_gate.Goals as goal
+
+pub place_of-place-requires : goal.place_of-place-requires
+place_of-place-requires c =
+    own-block c.args.p.now c.args.target c.args.chunk c.requires.chunk c.requires.target c.requires.gate c.as_slice.result.now c.block.result
+    (c.as_slice.ensures ∙ c.requires.blocks) c.block.ensures.block
+
+pub force_parity-requires-clause-odd : goal.force_parity-requires-clause-odd
+force_parity-requires-clause-odd c =
+    ap length c.pin_parities-odd.ensures ∙ ap (λ (n : Circuit). length (pin_parities n.drivers c.args.target)) c.net-net.ensures.net
+    ∙ count-odd c.args.p.now c.args.target c.args.chunk c.requires.gate c.args.blocks.now.items c.requires.blocks ∙ sym (ap length c.as_slice-in-Parity.ensures ∙ c.requires.view)
+
+pub returns-in-AndLike-clause-forced : goal.returns-in-AndLike-clause-forced
+returns-in-AndLike-clause-forced c =
+    let u : Unrolling = c.args.p.now in
+    let target : Sig = c.args.target in
+    let blocks : List Block = c.args.blocks.now.items in
+    let place : ℕ = c.place_of-place.result in
+    let view : List PinWord = c.as_slice-in-AndLike.result.now in
+    let driver : Driver = driver_at c.args.p.now.circuit.drivers c.args.target.0 in
+    let circuit : c.net-net.result.now ≡ c.args.p.now.circuit = c.net-net.ensures.net in
+    let kind : kind_of (driver_at c.args.p.now.circuit.drivers c.args.target.0) ≡ Some c.gate_kind.result =
+    subst (λ (n : Circuit). kind_of (driver_at n.drivers c.args.target.0) ≡ Some c.gate_kind.result) circuit c.gate_kind.ensures in
+    let size : length c.as_slice-in-AndLike.result.now ≡ length c.args.blocks.now.items = ap length c.as_slice-in-AndLike.ensures ∙ c.requires.view in
+    subst (λ (words : List PinWord). IsForcedExactly u (task_at u target c.args.chunk) blocks words c.force_and_like.new.out.items) c.as_slice-in-AndLike.ensures
+    (and_like-task u c.net-net.ensures.problem target c.args.chunk c.requires.chunk c.gate_kind.result (pins_of driver) (kind-driver driver c.gate_kind.result kind) c.requires.gate
+    blocks c.requires.blocks place (place-within c.as_slice.result.now blocks place c.as_slice.ensures c.place_of-place.ensures.within)
+    (place-at c.as_slice.result.now blocks place c.block.result (block_at u target c.args.chunk) c.as_slice.ensures c.block.ensures.block c.place_of-place.ensures.at)
+    view c.force_and_like.new.out.items size c.valid_bits-valid.result c.valid_bits-valid.ensures c.force_and_like.ensures.invalid
+    c.in-AndLike.gate.pins c.in-AndLike.gate.target c.in-AndLike.ensures c.force_and_like.ensures.forced)
+
+pub returns-in-Parity-clause-forced : goal.returns-in-Parity-clause-forced
+returns-in-Parity-clause-forced c =
+    let u : Unrolling = c.args.p.now in
+    let target : Sig = c.args.target in
+    let blocks : List Block = c.args.blocks.now.items in
+    let place : ℕ = c.place_of-place.result in
+    let view : List PinWord = c.as_slice-in-Parity.result.now in
+    let driver : Driver = driver_at c.args.p.now.circuit.drivers c.args.target.0 in
+    let circuit : c.net-net.result.now ≡ c.args.p.now.circuit = c.net-net.ensures.net in
+    let kind : kind_of (driver_at c.args.p.now.circuit.drivers c.args.target.0) ≡ Some c.gate_kind.result =
+    subst (λ (n : Circuit). kind_of (driver_at n.drivers c.args.target.0) ≡ Some c.gate_kind.result) circuit c.gate_kind.ensures in
+    let size : length c.as_slice-in-Parity.result.now ≡ length c.args.blocks.now.items = ap length c.as_slice-in-Parity.ensures ∙ c.requires.view in
+    subst (λ (words : List PinWord). IsForcedExactly u (task_at u target c.args.chunk) blocks words c.force_parity.new.out.items) c.as_slice-in-Parity.ensures
+    (parity-task u c.net-net.ensures.problem target c.args.chunk c.requires.chunk c.gate_kind.result (pins_of driver) (kind-driver driver c.gate_kind.result kind) c.requires.gate
+    blocks c.requires.blocks place (place-within c.as_slice.result.now blocks place c.as_slice.ensures c.place_of-place.ensures.within)
+    (place-at c.as_slice.result.now blocks place c.block.result (block_at u target c.args.chunk) c.as_slice.ensures c.block.ensures.block c.place_of-place.ensures.at)
+    view c.force_parity.new.out.items size c.valid_bits-valid.result c.valid_bits-valid.ensures c.force_parity.ensures.invalid
+    c.in-Parity.inverted c.pin_parities-odd.result.now (c.pin_parities-odd.ensures ∙ ap (λ (n : Circuit). pin_parities n.drivers target) circuit) c.in-Parity.ensures c.force_parity.ensures.forced)

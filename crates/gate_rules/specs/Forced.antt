@@ -1,0 +1,54 @@
+-- What a task forces, as the literals of the words of its blocks.
+use Rattle.std.specs.Prelude.{ℕ, ◌≡◌, ◌<◌, ◌==◌, ◌&&◌, ◌↔◌, Bool, false, IsTrue, IsFalse, List, [], ◌∷◌, length, nat_lt, slice_index_or, if◌then◌else◌}
+use Rattle.sr_model.specs.declared.cells.Lit.{Lit}
+use Rattle.sr_model.specs.declared.cells.Place.{Place}
+use Rattle.sr_model.specs.Closure.{ForcesAt, passing, lit}
+use Rattle.unroll.specs.declared.problem.Block.{Block}
+use Rattle.unroll.specs.declared.problem.Task.{Task}
+use Rattle.unroll.specs.declared.words.PinWord.{PinWord}
+use Rattle.unroll.specs.Bits.{is_set, is_cycle, word_for}
+use Rattle.unroll.specs.Problem.{Unrolling, unrolled, chunk_at, block_of, bit_of, cell_of}
+use Rattle.unroll.specs.Tasks.{IsPlaceOf}
+use Rattle.gate_rules.specs.Lanes.{words_at}
+
+-- the words that stand beside a block
+abbrev pub words_of : List Block → List PinWord → Block → PinWord
+words_of [] words b = record { zero = 0; one = 0 }
+words_of (c ∷ blocks) [] b = record { zero = 0; one = 0 }
+words_of (c ∷ blocks) (w ∷ words) b = if c.0 == b.0 then w else words_of blocks words b
+
+-- whether the words of these blocks have a literal
+abbrev pub view_has : Unrolling → List Block → List PinWord → Lit → Bool
+view_has u blocks view l = nat_lt l.cell.cycle u.cycles && is_set (word_for l.bit (words_of blocks view (block_of u l.cell))) (bit_of l.cell)
+
+-- a literal that the known ones force at an instance of the task
+pub record ForcedIn (u : Unrolling) (t : Task) (known : Lit → Bool) (l : Lit) : Type 0 where
+  pub place : Place
+  pub belongs : IsPlaceOf u t place
+  pub forces : ForcesAt (unrolled u) (passing known) place l
+
+-- bit i of the words for block j
+abbrev pub bit_at_place : List PinWord → ℕ → Bool → ℕ → Bool
+bit_at_place words j bit i = is_set (word_for bit (words_at words j)) i
+
+-- the literal that it stands for
+abbrev pub lit_at_place : Unrolling → List Block → ℕ → Bool → ℕ → Lit
+lit_at_place u blocks j bit i = lit (cell_of u (slice_index_or blocks j (record { 0 = 0 })) i) bit
+
+-- no bit of a cycle that is not there
+abbrev pub HasNoLaterBit : Unrolling → List Block → List PinWord → Type 0
+HasNoLaterBit u blocks words =
+    (j i : ℕ) (bit : Bool) → j < length blocks → i < 64 → is_cycle u.cycles (chunk_at u (slice_index_or blocks j (record { 0 = 0 }))) i ≡ false
+    → bit_at_place words j bit i ≡ false
+
+-- the words hold exactly what the task forces from those of the view
+abbrev pub IsForcedExactly : Unrolling → Task → List Block → List PinWord → List PinWord → Type 0
+IsForcedExactly u t blocks view words =
+    (j i : ℕ) (bit : Bool) → j < length blocks → i < 64
+    → IsTrue (bit_at_place words j bit i) ↔ ForcedIn u t (view_has u blocks view) (lit_at_place u blocks j bit i)
+
+-- the words hold exactly what of it the view does not have
+abbrev pub IsNewExactly : Unrolling → Task → List Block → List PinWord → List PinWord → Type 0
+IsNewExactly u t blocks view words =
+    (j i : ℕ) (bit : Bool) → j < length blocks → i < 64
+    → IsTrue (bit_at_place words j bit i) ↔ (ForcedIn u t (view_has u blocks view) (lit_at_place u blocks j bit i) × IsFalse (view_has u blocks view (lit_at_place u blocks j bit i)))

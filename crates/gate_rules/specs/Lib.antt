@@ -1,0 +1,7 @@
+pub mod AndLikeBits
+pub mod FlipFlopBits
+pub mod Forced
+pub mod Lanes
+pub mod OddPlaces
+pub mod Rules
+pub mod Ticks

@@ -1,0 +1,95 @@
+//! What a gate forces in a chunk, by its kind.
+ghost use Rattle.std.specs.Prelude.{◌≡◌, ◌<◌, ◌≤◌, true, length, Some, slice_index_or};
+ghost use Rattle.std.specs.List.{Contains};
+ghost use Rattle.netlist.specs.Wiring.{driver_at, is_gate, kind_of};
+ghost use Rattle.unroll.specs.Problem.{chunks_in};
+ghost use Rattle.unroll.specs.Tasks.{task_at, blocks_from};
+ghost use Rattle.gate_rules.specs.Forced.{IsForcedExactly};
+ghost use Rattle.gate_rules.specs.Rules.{IsRuleOf};
+
+use crate::and_like::{AndLike, force_and_like};
+use crate::parity::force_parity;
+use netlist::Netlist;
+use sr_model::{Kind, Sig};
+use unroll::{Block, Blocks, PinWords, Problem};
+
+/// How the target's bit follows from the pins' bits.
+#[derive(Clone, Copy)]
+enum Rule {
+    /// By whether all pins have one bit.
+    AndLike(AndLike),
+    /// It is the parity of the pins, or the other bit.
+    Parity { inverted: bool },
+}
+
+/// The rule of a kind.
+fn rule_of(kind: Kind) -> Rule
+    ensures { IsRuleOf kind result }
+{
+    let (pins, target) = match kind {
+        Kind::Xor => return Rule::Parity { inverted: false },
+        Kind::Xnor => return Rule::Parity { inverted: true },
+        Kind::And | Kind::Buf | Kind::Dff => (true, true),
+        Kind::Nand | Kind::Not => (true, false),
+        Kind::Or => (false, false),
+        Kind::Nor => (false, true),
+    };
+    Rule::AndLike(AndLike { pins, target })
+}
+
+/// The kind of the gate that drives a signal.
+fn gate_kind(net: &Netlist, target: Sig) -> Kind
+    requires target { target.0 < length net.now.drivers }
+    requires gate { is_gate (driver_at net.now.drivers target.0) ≡ true }
+    ensures { kind_of (driver_at net.now.drivers target.0) ≡ Some result }
+{
+    match net.kind_of(target) {
+        Some(kind) => kind,
+        None => unreachable!(),
+    }
+}
+
+/// The place of a block among blocks that have it.
+fn place_of(blocks: &[Block], block: Block) -> usize
+    requires { Contains blocks.now block }
+    ensures within { result < length blocks.now }
+    ensures at { slice_index_or blocks.now result block ≡ block }
+{
+    match blocks.iter().position(|other| other.0 == block.0) {
+        Some(place) => place,
+        None => unreachable!(),
+    }
+}
+
+/// What a gate forces in a chunk: the words of each of its blocks are set to the literals that its instances in the chunk's cycles force from those of `view`.
+///
+/// `view` has the words of the blocks, in their order. The cost is a few walks over the blocks.
+pub(crate) fn force_gate(
+    p: &Problem,
+    target: Sig,
+    chunk: u32,
+    blocks: &Blocks,
+    view: &PinWords,
+    out: &mut PinWords,
+)
+    requires target { target.0 < length p.now.circuit.drivers }
+    requires chunk { chunk < chunks_in p.now }
+    requires gate { is_gate (driver_at p.now.circuit.drivers target.0) ≡ true }
+    requires blocks { blocks.now.items ≡ blocks_from p.now target chunk }
+    requires view { length view.now.items ≡ length blocks.now.items }
+    requires out { length out.old.items ≡ length blocks.now.items }
+    ensures size { length out.new.items ≡ length blocks.now.items }
+    ensures room { out.old.room ≤ out.new.room }
+    ensures forced { IsForcedExactly p.now (task_at p.now target chunk) blocks.now.items view.now.items out.new.items }
+{
+    let net = p.net();
+    let place = place_of(blocks.as_slice(), p.block(target, chunk));
+    let valid = p.valid_bits(chunk);
+    match rule_of(gate_kind(net, target)) {
+        Rule::AndLike(gate) => force_and_like(gate, place, valid, view.as_slice(), out),
+        Rule::Parity { inverted } => {
+            let odd = net.pin_parities(target);
+            force_parity(inverted, place, odd, valid, view.as_slice(), out);
+        }
+    }
+}

@@ -1,0 +1,14 @@
+//! What a gate or flip-flop forces, 64 cycles at a time.
+#![tactic(auto)]
+
+mod and_like;
+mod flip_flops;
+mod gates;
+mod parity;
+mod rules;
+mod tally;
+#[cfg(test)]
+mod tests;
+
+pub use rules::{apply, apply_in_chunk, forced, forced_in_chunk};
+pub use tally::{Count, Tally};
