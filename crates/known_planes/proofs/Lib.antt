@@ -1,0 +1,9 @@
+pub mod Layouts
+pub mod Members
+pub mod BitCounts
+pub mod Sums
+pub mod DumpWords
+pub mod DumpRows
+pub mod Clashes
+pub mod RowCounts
+pub mod PlanesLaws

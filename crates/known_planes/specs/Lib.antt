@@ -1,0 +1,5 @@
+pub mod Planes
+pub mod Layout
+pub mod Counts
+pub mod Clash
+pub mod Laws

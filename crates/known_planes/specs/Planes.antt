@@ -1,0 +1,62 @@
+-- A set of literals in two words for each block.
+use Rattle.std.specs.Prelude.{ℕ, ◌≡◌, ◌<◌, ◌+◌, ◌*◌, ◌&&◌, Bool, true, false, IsTrue, bit_or, List, length, nat_lt, slice_index_or, slice_set}
+use Rattle.sr_model.specs.declared.cells.Lit.{Lit}
+use Rattle.sr_model.specs.Closure.{passing}
+use Rattle.unroll.specs.declared.problem.Block.{Block}
+use Rattle.unroll.specs.declared.words.PinWord.{PinWord}
+use Rattle.unroll.specs.Bits.{is_set, is_cycle, word_for}
+use Rattle.unroll.specs.Problem.{Unrolling, signals_in, chunks_in, blocks_in, block_of, chunk_at, bit_of}
+use Rattle.known_planes.specs.declared.planes.Seen.{Seen}
+use Rattle.known_planes.specs.declared.planes.Seen.TheVariants.{Zero, One, Unknown, Both}
+
+-- what contracts see of planes: over how many signals and chunks they are, and the two words of each block by its number
+pub record PlaneSet : Type 0 where
+  pub signals : ℕ
+  pub chunks : ℕ
+  pub words : List PinWord
+
+-- no literal of a block
+abbrev pub no_bits : PinWord
+no_bits = record { zero = 0; one = 0 }
+
+-- the words of a block
+abbrev pub words_at : PlaneSet → Block → PinWord
+words_at planes b = slice_index_or planes.words b.0 no_bits
+
+-- the words of a signal in a chunk
+abbrev pub pair_in : PlaneSet → ℕ → ℕ → PinWord
+pair_in planes s chunk = slice_index_or planes.words (s * planes.chunks + chunk) no_bits
+
+-- the bits of both
+abbrev pub joined : PinWord → PinWord → PinWord
+joined a b = record { zero = bit_or a.zero b.zero; one = bit_or a.one b.one }
+
+-- the same planes, but for these words of a block
+abbrev pub with_words : PlaneSet → Block → PinWord → PlaneSet
+with_words planes b w = record { signals = planes.signals; chunks = planes.chunks; words = slice_set planes.words b.0 w }
+
+-- whether the planes have the literal
+abbrev pub has : Unrolling → PlaneSet → Lit → Bool
+has u planes l = nat_lt l.cell.cycle u.cycles && is_set (word_for l.bit (words_at planes (block_of u l.cell))) (bit_of l.cell)
+
+-- the literals of the planes
+abbrev pub lits : Unrolling → PlaneSet → Lit → Type 0
+lits u planes = passing (has u planes)
+
+-- no bit of a chunk's words is set for a cycle that is not there
+abbrev pub HasNoFurtherBit : Unrolling → ℕ → PinWord → Type 0
+HasNoFurtherBit u chunk w = (bit : Bool) (i : ℕ) → i < 64 → IsTrue (is_set (word_for bit w) i) → IsTrue (is_cycle u.cycles chunk i)
+
+-- the planes are over the blocks of the problem, and have no further bit
+pub record IsOf (u : Unrolling) (planes : PlaneSet) : Type 0 where
+  pub signals : planes.signals ≡ signals_in u
+  pub chunks : planes.chunks ≡ chunks_in u
+  pub blocks : length planes.words ≡ blocks_in u
+  pub no_further : (b : Block) → b.0 < blocks_in u → HasNoFurtherBit u (chunk_at u b) (words_at planes b)
+
+-- what is seen of a cell, by whether its literals 0 and 1 are there
+abbrev pub seen_of : Bool → Bool → Seen
+seen_of false false = Unknown
+seen_of true false = Zero
+seen_of false true = One
+seen_of true true = Both

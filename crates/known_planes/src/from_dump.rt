@@ -1,0 +1,77 @@
+//! The literals of a dump.
+ghost use Rattle.std.specs.Prelude.{ℕ, ◌≡◌, ◌<◌, ◌≤◌, ◌==◌, ◌&&◌, ◌||◌, Bool, IfOk, All, length, map, slice_get};
+ghost use Rattle.sr_model.specs.declared.cells.Lit.{Lit};
+ghost use Rattle.sr_model.specs.Dump.{dump_has, is_bit};
+ghost use Rattle.dump_reader.specs.Recording.{bit_of};
+ghost use Rattle.unroll.specs.Bits.{is_set, word_for};
+ghost use Rattle.unroll.specs.Problem.{signals_in, chunks_in, block_at};
+ghost use Rattle.known_planes.specs.Planes.{has, words_at, with_words, IsOf, HasNoFurtherBit, joined};
+
+use crate::planes::Planes;
+use dump_reader::{Dump, Tri};
+use sr_model::{NoMemory, Sig};
+use std::alloc::Global;
+use unroll::{PinWord, Problem};
+
+/// The planes with the literals of a dump. Time is linear in the blocks and in the dump's cells.
+pub fn seed(alloc: Global, p: &Problem, d: &Dump) -> Result<Planes, NoMemory>
+    requires cycles { d.now.cycles ≡ p.now.cycles }
+    requires signals { All (λ row. row.sig.0 < signals_in p.now) d.now.rows }
+    ensures of { IfOk result (IsOf p.now) }
+    ensures literals { IfOk result (λ planes. (l : Lit) → has p.now planes l ≡ dump_has d.now.rows l) }
+{
+    let mut planes = Planes::empty(alloc, p)?;
+    for row in 0..d.row_count() {
+        join_row(&mut planes, p, d.row_sig(row), d.row_bits(row));
+    }
+    Ok(planes)
+}
+
+/// Adds the literals of a signal's cells, one for each cycle.
+fn join_row(planes: &mut Planes, p: &Problem, s: Sig, cells: &[Tri])
+    requires of { IsOf p.now planes.old }
+    requires signal { s.0 < signals_in p.now }
+    requires cells { length cells.now ≡ p.now.cycles }
+    ensures of { IsOf p.now planes.new }
+    ensures literals { (l : Lit) → has p.now planes.new l ≡ (has p.now planes.old l || ((s.0 == l.cell.sig.0) && is_bit (slice_get (map bit_of cells.now) l.cell.cycle) l.bit)) }
+{
+    for chunk in 0..p.chunks() {
+        let start = 64 * chunk as usize;
+        let end = cells.len().min(start + 64);
+        let words = words_of(&cells[start..end]);
+        join_words(planes, p, s, chunk, words);
+    }
+}
+
+/// Adds literals of a signal in a chunk.
+fn join_words(planes: &mut Planes, p: &Problem, s: Sig, chunk: u32, words: PinWord)
+    requires of { IsOf p.now planes.old }
+    requires signal { s.0 < signals_in p.now }
+    requires chunk { chunk < chunks_in p.now }
+    requires no_further { HasNoFurtherBit p.now chunk words }
+    ensures of { IsOf p.now planes.new }
+    ensures words { planes.new ≡ with_words planes.old (block_at p.now s chunk) (joined (words_at planes.old (block_at p.now s chunk)) words) }
+{
+    let old = planes.word_in_chunk(p, s, chunk);
+    let new = PinWord {
+        zero: old.zero | words.zero,
+        one: old.one | words.one,
+    };
+    planes.set_in_chunk(p, s, chunk, new);
+}
+
+/// The literals of up to 64 cells.
+fn words_of(cells: &[Tri]) -> PinWord
+    requires { length cells.now ≤ 64 }
+    ensures { (bit : Bool) (i : ℕ) → is_set (word_for bit result) i ≡ is_bit (slice_get (map bit_of cells.now) i) bit }
+{
+    let mut words = PinWord { zero: 0, one: 0 };
+    for (i, cell) in cells.iter().enumerate() {
+        match cell {
+            Tri::Zero => words.zero |= 1 << i,
+            Tri::One => words.one |= 1 << i,
+            Tri::X => {}
+        }
+    }
+    words
+}

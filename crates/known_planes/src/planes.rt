@@ -1,0 +1,199 @@
+//! A set of literals, kept as one flat list of words.
+ghost use Rattle.std.specs.Prelude.{◌≡◌, ◌<◌, ◌≤◌, ◌*◌, ◌+◌, length, false, true, IfOk, slice_set, replicate};
+ghost use Rattle.sr_model.specs.declared.cells.Lit.{Lit};
+ghost use Rattle.sr_model.specs.Closure.{lit};
+ghost use Rattle.unroll.specs.Bits.{is_set};
+ghost use Rattle.unroll.specs.Problem.{signals_in, chunks_in, blocks_in, block_at, chunk_at};
+ghost use Rattle.known_planes.specs.Planes.{has, pair_in, words_at, with_words, HasNoFurtherBit, IsOf, seen_of};
+ghost use Rattle.known_planes.specs.Layout.{place_of};
+
+use sr_model::{Cell, NoMemory, Sig};
+use std::alloc::Global;
+use std::marker::Model;
+use unroll::{Block, PinWord, Problem};
+
+/// What planes have of a cell.
+#[derive(Clone, Copy, Debug, PartialEq, Eq)]
+pub enum Seen {
+    Zero,
+    One,
+    Unknown,
+    Both,
+}
+
+/// A set of literals of a problem, seen by contracts as the zero word and the one word of each block.
+///
+/// It takes 16 bytes for each block and 8 more, in one piece. The words of a block lie side by side, those of a chunk's signals one behind the other, and
+/// chunk after chunk: rules join signals of one chunk. At the end is one more word, which stays 0.
+#[derive(Drop)]
+pub struct Planes {
+    words: Vec<u64>,
+    signals: u32,
+    chunks: u32,
+}
+
+impl Model for Planes {
+    ghost use Rattle.known_planes.specs.Planes.{PlaneSet};
+    ghost use Rattle.known_planes.specs.Layout.{words_from, IsLaidOut};
+
+    ghost Value = { PlaneSet };
+
+    ghost view = { λ p. record { signals = p.signals; chunks = p.chunks; words = words_from p.signals p.chunks p.words.items } };
+
+    ghost invariant = { λ p. IsLaidOut p.signals p.chunks p.words.items };
+}
+
+impl Planes {
+    /// The planes with no literal.
+    pub fn empty(alloc: Global, p: &Problem) -> Result<Planes, NoMemory>
+        ensures of { IfOk result (IsOf p.now) }
+        ensures none { IfOk result (λ planes. (l : Lit) → has p.now planes l ≡ false) }
+    {
+        let signals = p.net().signals();
+        let chunks = p.chunks();
+        let words = zeros(alloc, 2 * p.blocks() as usize + 1)?;
+        Ok(Planes {
+            words,
+            signals,
+            chunks,
+        })
+    }
+
+    /// Planes with the same literals.
+    pub fn copy(&self, alloc: Global) -> Result<Planes, NoMemory>
+        ensures { IfOk result (λ planes. planes ≡ self.now) }
+    {
+        let words = Vec::from_slice(alloc, self.words.as_slice()).map_err(|_| NoMemory)?;
+        Ok(Planes {
+            words,
+            signals: self.signals,
+            chunks: self.chunks,
+        })
+    }
+
+    /// The words of a block. `word_in_chunk` does it with no division.
+    pub fn word(&self, b: Block) -> PinWord
+        requires { b.0 < length self.now.words }
+        ensures { result ≡ words_at self.now b }
+    {
+        self.pair(Sig(b.0 / self.chunks), b.0 % self.chunks)
+    }
+
+    /// Replaces the words of a block. `set_in_chunk` does it with no division.
+    pub fn set(&mut self, p: &Problem, b: Block, w: PinWord)
+        requires of { IsOf p.now self.old }
+        requires block { b.0 < blocks_in p.now }
+        requires no_further { HasNoFurtherBit p.now (chunk_at p.now b) w }
+        ensures words { self.new ≡ with_words self.old b w }
+        ensures of { IsOf p.now self.new }
+    {
+        self.set_pair(p.sig_of(b), p.chunk_of(b), w);
+    }
+
+    /// The words of a signal in a chunk.
+    pub fn word_in_chunk(&self, _p: &Problem, s: Sig, chunk: u32) -> PinWord
+        requires of { IsOf _p.now self.now }
+        requires signal { s.0 < signals_in _p.now }
+        requires chunk { chunk < chunks_in _p.now }
+        ensures { result ≡ words_at self.now (block_at _p.now s chunk) }
+    {
+        self.pair(s, chunk)
+    }
+
+    /// Replaces the words of a signal in a chunk.
+    pub fn set_in_chunk(&mut self, _p: &Problem, s: Sig, chunk: u32, w: PinWord)
+        requires of { IsOf _p.now self.old }
+        requires signal { s.0 < signals_in _p.now }
+        requires chunk { chunk < chunks_in _p.now }
+        requires no_further { HasNoFurtherBit _p.now chunk w }
+        ensures words { self.new ≡ with_words self.old (block_at _p.now s chunk) w }
+        ensures of { IsOf _p.now self.new }
+    {
+        self.set_pair(s, chunk, w);
+    }
+
+    /// What the planes have of a cell.
+    pub fn bit(&self, p: &Problem, cell: Cell) -> Seen
+        requires of { IsOf p.now self.now }
+        requires signal { cell.sig.0 < signals_in p.now }
+        requires cycle { cell.cycle < p.now.cycles }
+        ensures { result ≡ seen_of (has p.now self.now (lit cell false)) (has p.now self.now (lit cell true)) }
+    {
+        let words = self.word_in_chunk(p, cell.sig, cell.cycle / 64);
+        let i = cell.cycle % 64;
+        match (is_set(words.zero, i), is_set(words.one, i)) {
+            (false, false) => Seen::Unknown,
+            (true, false) => Seen::Zero,
+            (false, true) => Seen::One,
+            (true, true) => Seen::Both,
+        }
+    }
+
+    /// How many signals the planes are over.
+    pub(crate) fn signals(&self) -> u32
+        ensures signals { result ≡ self.now.signals }
+        ensures few { result ≤ 65536 }
+    {
+        self.signals
+    }
+
+    /// How many chunks the planes are over.
+    pub(crate) fn chunks(&self) -> u32
+        ensures chunks { result ≡ self.now.chunks }
+        ensures few { result ≤ 128 }
+    {
+        self.chunks
+    }
+
+    /// The words of a signal in a chunk.
+    pub(crate) fn pair(&self, s: Sig, chunk: u32) -> PinWord
+        requires signal { s.0 < self.now.signals }
+        requires chunk { chunk < self.now.chunks }
+        ensures { result ≡ pair_in self.now s.0 chunk }
+    {
+        let place = place(self.signals, s, chunk);
+        PinWord {
+            zero: self.words[place],
+            one: self.words[place + 1],
+        }
+    }
+
+    /// Replaces the words of a signal in a chunk.
+    fn set_pair(&mut self, s: Sig, chunk: u32, w: PinWord)
+        requires signal { s.0 < self.old.signals }
+        requires chunk { chunk < self.old.chunks }
+        ensures { self.new ≡ record { signals = self.old.signals; chunks = self.old.chunks; words = slice_set self.old.words (s.0 * self.old.chunks + chunk) w } }
+    {
+        let place = place(self.signals, s, chunk);
+        self.words[place] = w.zero;
+        self.words[place + 1] = w.one;
+    }
+}
+
+/// So many words that are 0.
+fn zeros(alloc: Global, count: usize) -> Result<Vec<u64>, NoMemory>
+    ensures { IfOk result (λ words. words.items ≡ replicate count 0) }
+{
+    match vec![in alloc; 0; count] {
+        Ok(words) => Ok(words),
+        Err(_) => Err(NoMemory),
+    }
+}
+
+/// Where the words of a signal in a chunk lie: the zero word is here, and the one word behind it.
+fn place(signals: u32, s: Sig, chunk: u32) -> usize
+    requires signals { signals ≤ 65536 }
+    requires signal { s.0 < signals }
+    requires chunk { chunk < 128 }
+    ensures { result ≡ place_of signals s.0 chunk }
+{
+    2 * (chunk as usize * signals as usize + s.0 as usize)
+}
+
+/// Whether bit i of the word is set.
+pub(crate) fn is_set(word: u64, i: u32) -> bool
+    requires { i < 64 }
+    ensures { result ≡ is_set word i }
+{
+    (word >> i) & 1 == 1
+}

@@ -1,0 +1,181 @@
+//! Planes of a small netlist over two chunks, worked out by hand.
+ghost use Rattle.std.specs.Prelude.{◌≡◌, ◌<◌, length, IfOk};
+ghost use Rattle.unroll.specs.Problem.{signals_in, chunks_in};
+ghost use Rattle.known_planes.specs.Planes.{HasNoFurtherBit, IsOf};
+
+use crate::{Closer, Planes, Seen, seed};
+use dump_reader::{Dump, Tri};
+use netlist::{Netlist, are_statements, build};
+use sr_model::{Bytes, Cell, Kind, Names, NoMemory, Numbered, Sig, Statement, Statements};
+use std::alloc::Global;
+use std::process::Abort;
+use std::test::Fail;
+use std::thread::Threads;
+use unroll::{Block, PinWord, Problem};
+
+fn to_bytes(alloc: Global, text: &[u8]) -> Result<Bytes, NoMemory> {
+    let mut bytes = Bytes::new(alloc);
+    for byte in text {
+        bytes.push(*byte)?;
+    }
+    Ok(bytes)
+}
+
+/// A flip-flop 0 with the data pin 1, which is a NOT of the input 2.
+fn small(rt: &impl Abort, alloc: Global) -> Result<Netlist, Fail> {
+    let mut all = Statements::new(alloc);
+    let rows: [(&[u8], Kind, &[u8]); 2] = [(b"q", Kind::Dff, b"g"), (b"g", Kind::Not, b"a")];
+    for (target, kind, pin) in rows {
+        let mut pins = Names::new(alloc);
+        pins.push(to_bytes(alloc, pin)?)?;
+        let target = to_bytes(alloc, target)?;
+        let statement = Statement::Drive { target, kind, pins };
+        all.push(Numbered { line: 1, statement })?;
+    }
+    let statement = Statement::Input(to_bytes(alloc, b"a")?);
+    all.push(Numbered { line: 3, statement })?;
+    assert!(rt; are_statements(&all));
+    Ok(build(alloc, &all)?)
+}
+
+/// The words without bits of cycles that are not there.
+fn words(p: &Problem, chunk: u32, zero: u64, one: u64) -> PinWord
+    requires { chunk < chunks_in p.now }
+    ensures { HasNoFurtherBit p.now chunk result }
+{
+    let valid = p.valid_bits(chunk);
+    PinWord {
+        zero: zero & valid,
+        one: one & valid,
+    }
+}
+
+/// Gives no closure.
+#[derive(Drop)]
+struct Refusing;
+
+impl Closer for Refusing {
+    fn close<R: Threads + Sync>(
+        &mut self,
+        _rt: &R,
+        _alloc: Global,
+        _p: &Problem,
+        _base: &Planes,
+    ) -> Result<Planes, NoMemory> {
+        Err(NoMemory)
+    }
+
+    fn close_more<R: Threads + Sync>(
+        &mut self,
+        _rt: &R,
+        _alloc: Global,
+        _p: &Problem,
+        _closed: &Planes,
+        _added: &Planes,
+    ) -> Result<Planes, NoMemory> {
+        Err(NoMemory)
+    }
+}
+
+/// The literal 1 of signal 0 in cycle 63, and its literal 0 in cycle 64.
+fn seeded(alloc: Global, p: &Problem) -> Result<Planes, Fail>
+    requires cycles { p.now.cycles ≡ 70 }
+    requires signals { signals_in p.now ≡ 3 }
+    ensures { IfOk result (IsOf p.now) }
+{
+    let mut dump = Dump::new(alloc, p.cycles());
+    let row = row(alloc, p.cycles())?;
+    dump.add_row(Sig(0), row.as_slice())?;
+    Ok(seed(alloc, p, &dump)?)
+}
+
+/// A cell for each cycle: a 1 in cycle 63, a 0 in cycle 64, and nothing elsewhere.
+fn row(alloc: Global, cycles: u32) -> Result<Vec<Tri>, Fail>
+    requires { 64 < cycles }
+    ensures { IfOk result (λ row. length row.items ≡ cycles) }
+{
+    let mut cells = vec![in alloc; Tri::X; cycles as usize]?;
+    cells[63] = Tri::One;
+    cells[64] = Tri::Zero;
+    Ok(cells)
+}
+
+/// Both literals of signal 0 in cycle 65 beside its literal 0 in cycle 64, and both of signal 2 in cycle 64.
+fn add_both(p: &Problem, planes: &mut Planes)
+    requires of { IsOf p.now planes.old }
+    requires cycles { p.now.cycles ≡ 70 }
+    requires signals { signals_in p.now ≡ 3 }
+    ensures { IsOf p.now planes.new }
+{
+    planes.set(p, Block(1), words(p, 1, 3, 2));
+    planes.set_in_chunk(p, Sig(2), 1, words(p, 1, 1, 1));
+}
+
+fn all_seen(rt: &impl Abort, p: &Problem, planes: &Planes) -> Result<(), Fail>
+    requires of { IsOf p.now planes.now }
+{
+    let cases = [
+        (0, 62, Seen::Unknown),
+        (0, 63, Seen::One),
+        (0, 64, Seen::Zero),
+        (0, 65, Seen::Both),
+        (2, 64, Seen::Both),
+        (2, 65, Seen::Unknown),
+    ];
+    for (sig, cycle, seen) in cases {
+        assert!(rt; sig < p.net().signals() && cycle < p.cycles());
+        let cell = Cell {
+            cycle,
+            sig: Sig(sig),
+        };
+        assert_eq!(rt; planes.bit(p, cell), seen, "{sig} {cycle}");
+    }
+    Ok(())
+}
+
+fn has_clash(rt: &impl Abort, p: &Problem, planes: &Planes, clash: Option<Cell>)
+    requires { IsOf p.now planes.now }
+{
+    assert_eq!(rt; planes.clash(p), clash);
+}
+
+fn has_counts(rt: &impl Abort, p: &Problem, planes: &Planes, literals: u64, known: u64)
+    requires { IsOf p.now planes.now }
+{
+    assert_eq!(rt; planes.count_literals(), literals);
+    assert_eq!(rt; planes.count_known_flip_flops(p), known);
+}
+
+fn gives_none(rt: &(impl Abort + Threads + Sync), alloc: Global, p: &Problem, base: &Planes)
+    requires { IsOf p.now base.now }
+{
+    let mut closer = Refusing;
+    assert!(rt; closer.close(rt, alloc, p, base).is_err());
+}
+
+fn compare(rt: &(impl Abort + Threads + Sync), alloc: Global, p: &Problem) -> Result<(), Fail> {
+    assert!(rt; p.cycles() == 70 && p.net().signals() == 3);
+    let seeded = seeded(alloc, p)?;
+    let mut planes = seeded.copy(alloc)?;
+    add_both(p, &mut planes);
+    all_seen(rt, p, &planes)?;
+    has_clash(rt, p, &seeded, None);
+    let sig = Sig(2);
+    has_clash(rt, p, &planes, Some(Cell { cycle: 64, sig }));
+    has_counts(rt, p, &seeded, 2, 2);
+    has_counts(rt, p, &planes, 6, 3);
+    gives_none(rt, alloc, p, &planes);
+    Ok(())
+}
+
+fn over_70<'n>(rt: &impl Abort, net: &'n Netlist) -> Problem<'n> {
+    assert!(rt; net.signals() == 3);
+    Problem::new(net, 70)
+}
+
+#[test]
+fn planes_over_two_chunks(rt: HostRuntime) -> Result<(), Fail> {
+    let net = small(&rt, rt.alloc())?;
+    let problem = over_70(&rt, &net);
+    compare(&rt, rt.alloc(), &problem)
+}
