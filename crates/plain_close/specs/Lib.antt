@@ -1,6 +1,3 @@
-pub mod Circuit
-pub mod Forcing
-pub mod Simple
-pub mod Sweep
-pub mod Table
-pub mod Worklist
+pub mod Queues
+pub mod Turns
+pub mod Levels

@@ -1,14 +1,14 @@
-//! Closes a set of literals under the one-gate rules, plainly: from gate to gate by a worklist, and then all instances until nothing is added.
+//! Closes a set of literals under the one-gate rules on one thread: by tasks that wait, and level by level up to the first clash.
 #![tactic(auto)]
 
-mod closing;
-mod instances;
-mod known;
-mod rules;
-mod steps;
-mod sweeps;
+mod joins;
+mod level_tasks;
+mod levels;
+mod plain_closer;
+mod task_queues;
 #[cfg(test)]
 mod tests;
-mod worklist;
+mod turns;
 
-pub use closing::{close_plain, is_simple};
+pub use levels::{Clash, first_clash};
+pub use plain_closer::PlainCloser;

@@ -1,22 +1,15 @@
 -- How the parts of an answer come together.
-use Rattle.std.proofs.Common.{◌≡◌, ℕ, ◌≤◌, ◌<◌, ◌+◌, ◌*◌, ◌/◌, arith, mul-le-mul_left, mul_assoc, ◌&&◌, ◌↔◌, Bool, true, false, List, [], ◌∷◌, map, length, Option, Some, None, IsTrue, sym, refl, subst, ap, ◌∙◌, inl, inr}
-use Rattle.std.specs.Prelude.{IfSome, IsNone, IsErrOf, Result, Err, Contains}
-use Rattle.std.specs.List.{list_any}
-use Rattle.std.proofs.lemmas.Bool.{and_parts, and_from, true≢false}
-use mathlib.Core.Bool.{beq}
+use Rattle.std.proofs.Common.{◌≡◌, ℕ, ◌≤◌, ◌<◌, Bool, true, false, List, [], ◌∷◌, map, length, Option, Some, None, sym, refl, subst, ap, ◌∙◌, inl, inr}
+use Rattle.std.specs.Prelude.{IfSome, IsNone, IsErrOf, Result, Err}
 use Rattle.sr_model.specs.Room.{WithRoom}
-use Rattle.sr_model.specs.declared.cells.Cell.{Cell}
 use Rattle.sr_model.specs.declared.cells.Lit.{Lit}
 use Rattle.sr_model.specs.declared.statements.Numbered.{Numbered}
 use Rattle.sr_model.specs.Declaration.{Declaration, declared, declarations_of, declaration_of}
 use Rattle.sr_model.specs.Netlist.{Unrolled}
-use Rattle.sr_model.specs.Closure.{LitSet, Closure, HasBoth, SameLits, passing}
-use Rattle.sr_model.specs.Dump.{Known, dump_has}
-use Rattle.sr_model.proofs.Members.{list_any-from, list_any-found}
-use Rattle.sr_model.proofs.Rows.{cell_eq, cell_eq-true, cell_eq-itself}
-use Rattle.sr_model.proofs.AndLike.{beq-true, beq-same}
+use Rattle.sr_model.specs.Closure.{LitSet, Closure, SameLits, passing, lit}
+use Rattle.sr_model.specs.Dump.{Known, Row, dump_has}
 use Rattle.sr_model.proofs.ClosureLaws.{monotone}
-use Rattle.sr_outside.specs.Told.{Held, IsSteady}
+use Rattle.sr_outside.specs.Told.{Held}
 use Rattle.sr_outside.specs.declared.whole.ReadRefusal.{ReadRefusal}
 use Rattle.sr_outside.specs.declared.whole.ReadRefusal.TheVariants as refusals
 use Rattle.bench_reader.specs.declared.reader.BenchRefusal.{BenchRefusal}
@@ -30,106 +23,44 @@ use Rattle.netlist.specs.Circuit.{Circuit, IsNetlist, circuit_of, unrolled_over}
 use Rattle.dump_reader.specs.declared.refusal.DumpRefusal.{DumpRefusal}
 use Rattle.dump_reader.specs.declared.refusal.DumpRefusal.TheVariants as dumps
 use Rattle.dump_reader.specs.Recording.{Recording}
-use Rattle.dump_reader.specs.Grammar.{block_count}
-use Rattle.plain_close.specs.Simple.{IsSimple}
+use Rattle.unroll.specs.Problem.{Unrolling, unrolled}
 use Rattle.restore_program.specs.declared.reply.Part.{Part}
 use Rattle.restore_program.specs.declared.reply.Part.TheVariants as parts
 use Rattle.restore_program.specs.declared.reply.Reply.{Reply}
 use Rattle.restore_program.specs.declared.reply.Reply.TheVariants as replies
 use Rattle.restore_program.specs.declared.status.Status.TheVariants as statuses
 use Rattle.restore_program.specs.Reply.{text_of, status_of, too_long_line}
-use Rattle.restore_program.specs.TableText.{table_text}
 use Rattle.restore_program.specs.Printing.{IsPrinted}
 use Rattle.restore_program.specs.Words.{IsCommand, Restores, Prints}
-use Rattle.restore_program.specs.Answer.{most_bytes, IsNetlistText, RefusedNetlist, netlist_too_long, bad_line, no_netlist, IsDumpText, IsDumpRefusal, KnownFrom, OnDump, dump_too_long, bad_dump, not_built, clash, table, IsNetlistOf, OnRefused, DumpAnswer, RestoreAnswer, PrintAnswer, Answer, usage, restore, print, IsPlain, Replies, IsFault, unread_reply, OnLits, ReplyAnswer, IsAcceptedNetlist, IsNetlistFault, IsDumpFault, IsFaultOf, IsWordsFault, OnFault, Says}
+use Rattle.restore_program.specs.Answer.{most_bytes, IsNetlistText, RefusedNetlist, netlist_too_long, bad_line, no_netlist, IsDumpText, IsDumpRefusal, KnownFrom, OnDump, dump_too_long, bad_dump, clash, table, IsNetlistOf, OnRefused, DumpAnswer, RestoreAnswer, PrintAnswer, Answer, usage, restore, print, IsPlain, Replies, IsFault, unread_reply, OnKnown, ReplyAnswer, IsAcceptedNetlist, IsNetlistFault, IsDumpFault, IsFaultOf, IsWordsFault, OnFault, Says}
 
--- ---- a test for the literals of a list
+-- ---- from what is known to a dump
 
-lit_eq : Lit → Lit → Bool
-lit_eq a b = cell_eq a.cell b.cell && beq a.bit b.bit
+pub on_dump : (c : Circuit) (bytes : List ℕ) (d : Recording) (known : Lit → Bool) (reply : Reply) → IsDumpText c bytes d → SameLits (passing known) (KnownFrom c d)
+    → OnKnown c d.cycles known reply → Replies (OnDump c bytes) reply
+on_dump c bytes d known replies.Clash spells same (cell, both) plain = clash d cell spells (same.0 (lit cell false) both.0, same.0 (lit cell true) both.1)
+on_dump c bytes d known (replies.Text text) spells same (no_clash, e) plain = subst (λ t. OnDump c bytes t statuses.Done) (sym e) (table d known spells same no_clash)
+on_dump c bytes d known replies.NoMemory spells same h plain = absurd plain
+on_dump c bytes d known replies.Usage spells same h plain = absurd h
+on_dump c bytes d known (replies.TooLong part) spells same h plain = absurd h
+on_dump c bytes d known (replies.Bench r) spells same h plain = absurd h
+on_dump c bytes d known (replies.Net r) spells same h plain = absurd h
+on_dump c bytes d known (replies.Dumped r) spells same h plain = absurd h
+on_dump c bytes d known (replies.Fault part) spells same h plain = absurd h
 
-pub listed : List Lit → Lit → Bool
-listed lits l = list_any (λ x. lit_eq x l) lits
+-- the same for a dump over the cycles of a problem
+pub on_recording : (u : Unrolling) (bytes : List ℕ) (d : Recording) (known : Lit → Bool) (reply : Reply) → d.cycles ≡ u.cycles → IsDumpText u.circuit bytes d
+    → SameLits (passing known) (Known (unrolled u) d.rows) → OnKnown u.circuit u.cycles known reply → Replies (OnDump u.circuit bytes) reply
+on_recording u bytes d known reply e spells same on =
+    on_dump u.circuit bytes d known reply spells (subst (λ n. SameLits (passing known) (Known (unrolled_over u.circuit n) d.rows)) (sym e) same)
+    (subst (λ n. OnKnown u.circuit n known reply) (sym e) on)
 
-lit_eq-true : (a b : Lit) → lit_eq a b ≡ true → a ≡ b
-unfolding lit_eq
-lit_eq-true a b e =
-    let parts : (cell_eq a.cell b.cell ≡ true) × (beq a.bit b.bit ≡ true) = and_parts (cell_eq a.cell b.cell) (beq a.bit b.bit) e in
-    let cell : a.cell ≡ b.cell = cell_eq-true a.cell b.cell parts.0 in
-    let bit : a.bit ≡ b.bit = beq-true a.bit b.bit parts.1 in
-    ap (λ c. record { cell = c; bit = a.bit }) cell ∙ ap (λ x. record { cell = b.cell; bit = x }) bit
-
-pub listed-same : (lits : List Lit) → SameLits (passing (listed lits)) (Contains lits)
-unfolding listed lit_eq
-listed-same lits = (
-  λ l h. let found : (x : Lit) × Contains lits x × (lit_eq x l ≡ true) = list_any-found (λ x. lit_eq x l) lits h in subst (Contains lits) (lit_eq-true found.0 l found.2) found.1,
-  λ l h. list_any-from (λ x. lit_eq x l) lits l h (and_from (cell_eq l.cell l.cell) (beq l.bit l.bit) (cell_eq-itself l.cell) (beq-same l.bit l.bit refl)),
+-- what is known from literals that are those of a dump
+pub known_from : (u : Unrolled) (rows : List Row) (base : Lit → Bool) (known : LitSet) → ((l : Lit) → base l ≡ dump_has rows l) → SameLits known (Closure u (passing base)) → SameLits known (Known u rows)
+known_from u rows base known each same = (
+  λ l h. monotone u (passing base) (passing (dump_has rows)) (λ x holds. sym (each x) ∙ holds) l (same.0 l h),
+  λ l h. same.1 l (monotone u (passing (dump_has rows)) (passing base) (λ x holds. each x ∙ holds) l h),
 )
-
--- ---- from literals to a dump
-
-both_within : (a b : LitSet) → ((l : Lit) → a l → b l) → (c : Cell) → HasBoth a c → HasBoth b c
-both_within a b within c both = (within _ both.0, within _ both.1)
-
-same_trans : (a b c : LitSet) → SameLits a b → SameLits b c → SameLits a c
-same_trans a b c first second = (λ l h. second.0 l (first.0 l h), λ l h. first.1 l (second.1 l h))
-
-pub closed_table : (c : Circuit) (cycles : ℕ) (base known : List Lit) (text : List ℕ) → SameLits (Contains known) (Closure (unrolled_over c cycles) (Contains base))
-    → ((cell : Cell) → HasBoth (Contains known) cell → ⊥) → ((test : Lit → Bool) → SameLits (passing test) (Contains known) → text ≡ table_text c cycles test)
-    → (test : Lit → Bool) × SameLits (passing test) (Closure (unrolled_over c cycles) (Contains base)) × ((cell : Cell) → HasBoth (passing test) cell → ⊥) × (text ≡ table_text c cycles test)
-closed_table c cycles base known text same no_clash is_table = (
-  listed known,
-  same_trans (passing (listed known)) (Contains known) (Closure (unrolled_over c cycles) (Contains base)) (listed-same known) same,
-  λ cell both. no_clash cell (both_within (passing (listed known)) (Contains known) (listed-same known).0 cell both),
-  is_table (listed known) (listed-same known),
-)
-
-pub no_clash_in : (u : Unrolled) (base known : List Lit) → SameLits (Contains known) (Closure u (Contains base)) → ((c : Cell) × HasBoth (Closure u (Contains base)) c → true ≡ false)
-    → (c : Cell) → HasBoth (Contains known) c → ⊥
-no_clash_in u base known same none c both = true≢false (none (c, both_within (Contains known) (Closure u (Contains base)) same.0 c both))
-
-pub on_dump : (c : Circuit) (bytes : List ℕ) (d : Recording) (lits : List Lit) (reply : Reply) → IsDumpText c bytes d → IsSimple c.drivers
-    → ((l : Lit) → Contains lits l ↔ IsTrue (dump_has d.rows l)) → OnLits c d.cycles lits reply → Replies (OnDump c bytes) reply
-on_dump c bytes d lits replies.Clash spells simple each (cell, both) plain =
-    let u : Unrolled = unrolled_over c d.cycles in
-    clash d cell spells simple (both_within (Closure u (Contains lits)) (Known u d.rows) (monotone u (Contains lits) (passing (dump_has d.rows)) (λ l h. (each l).0 h)) cell both)
-on_dump c bytes d lits (replies.Text text) spells simple each (test, same, no_clash, e) plain =
-    let u : Unrolled = unrolled_over c d.cycles in
-    let all : SameLits (Closure u (Contains lits)) (Known u d.rows) = (
-      monotone u (Contains lits) (passing (dump_has d.rows)) (λ l h. (each l).0 h),
-      monotone u (passing (dump_has d.rows)) (Contains lits) (λ l h. (each l).1 h),
-    ) in
-    subst (λ t. OnDump c bytes t statuses.Done) (sym e)
-    (table d test spells simple (same_trans (passing test) (Closure u (Contains lits)) (Known u d.rows) same all) no_clash)
-on_dump c bytes d lits replies.NoMemory spells simple each h plain = absurd plain
-on_dump c bytes d lits replies.Usage spells simple each h plain = absurd h
-on_dump c bytes d lits (replies.TooLong part) spells simple each h plain = absurd h
-on_dump c bytes d lits (replies.Bench r) spells simple each h plain = absurd h
-on_dump c bytes d lits (replies.Net r) spells simple each h plain = absurd h
-on_dump c bytes d lits (replies.Dumped r) spells simple each h plain = absurd h
-on_dump c bytes d lits replies.NotBuilt spells simple each h plain = absurd h
-on_dump c bytes d lits (replies.Fault part) spells simple each h plain = absurd h
-
--- the cells of so many signals and cycles, where the blocks of 64 are few
-pub cells_room : (signals cycles : ℕ) → block_count signals cycles ≤ 4194304 → signals * cycles ≤ 268435456
-cells_room signals cycles few =
-    let chunks : cycles ≤ (cycles + 63) / 64 * 64 = omega arith in
-    let wide : signals * cycles ≤ signals * ((cycles + 63) / 64 * 64) = mul-le-mul_left signals chunks in
-    let same : signals * ((cycles + 63) / 64 * 64) ≡ signals * ((cycles + 63) / 64) * 64 = sym (mul_assoc signals ((cycles + 63) / 64) 64) in
-    omega (arith, wide, same, few)
-
--- such a reply is no fault and does not speak of the words
-pub on_lits-plain : (c : Circuit) (cycles : ℕ) (lits : List Lit) (reply : Reply) → OnLits c cycles lits reply → (IsFault reply → ⊥) × (reply ≡ replies.Usage → ⊥)
-on_lits-plain c cycles lits replies.Clash h = (λ f. f, λ e. cc)
-on_lits-plain c cycles lits (replies.Text text) h = (λ f. f, λ e. cc)
-on_lits-plain c cycles lits replies.NoMemory h = (λ f. f, λ e. cc)
-on_lits-plain c cycles lits replies.Usage h = absurd h
-on_lits-plain c cycles lits (replies.TooLong part) h = absurd h
-on_lits-plain c cycles lits (replies.Bench r) h = absurd h
-on_lits-plain c cycles lits (replies.Net r) h = absurd h
-on_lits-plain c cycles lits (replies.Dumped r) h = absurd h
-on_lits-plain c cycles lits replies.NotBuilt h = absurd h
-on_lits-plain c cycles lits (replies.Fault part) h = absurd h
 
 -- ---- texts that are refused
 
@@ -242,7 +173,6 @@ printed_now held netlist c (replies.TooLong part) is printed = absurd printed
 printed_now held netlist c (replies.Bench r) is printed = absurd printed
 printed_now held netlist c (replies.Net r) is printed = absurd printed
 printed_now held netlist c (replies.Dumped r) is printed = absurd printed
-printed_now held netlist c replies.NotBuilt is printed = absurd printed
 printed_now held netlist c replies.Clash is printed = absurd printed
 printed_now held netlist c (replies.Fault part) is printed = absurd printed
 
@@ -259,7 +189,6 @@ printed-plain c (replies.TooLong part) h = absurd h
 printed-plain c (replies.Bench r) h = absurd h
 printed-plain c (replies.Net r) h = absurd h
 printed-plain c (replies.Dumped r) h = absurd h
-printed-plain c replies.NotBuilt h = absurd h
 printed-plain c replies.Clash h = absurd h
 printed-plain c (replies.Fault part) h = absurd h
 
@@ -287,7 +216,6 @@ no_faults P (replies.TooLong part) none = tt
 no_faults P (replies.Bench r) none = tt
 no_faults P (replies.Net r) none = tt
 no_faults P (replies.Dumped r) none = tt
-no_faults P replies.NotBuilt none = tt
 no_faults P replies.Clash none = tt
 no_faults P replies.NoMemory none = tt
 no_faults P (replies.Text text) none = tt
@@ -299,7 +227,6 @@ faults_also P Q (replies.TooLong part) also h = tt
 faults_also P Q (replies.Bench r) also h = tt
 faults_also P Q (replies.Net r) also h = tt
 faults_also P Q (replies.Dumped r) also h = tt
-faults_also P Q replies.NotBuilt also h = tt
 faults_also P Q replies.Clash also h = tt
 faults_also P Q replies.NoMemory also h = tt
 faults_also P Q (replies.Text text) also h = tt
@@ -334,7 +261,6 @@ says words told shaky (replies.Fault part) answer fault = (part, refl, fault)
 says words told shaky replies.NoMemory answer fault = refl
 says words told shaky replies.Usage answer fault = plainly words told replies.Usage answer tt
 says words told shaky replies.Clash answer fault = plainly words told replies.Clash answer tt
-says words told shaky replies.NotBuilt answer fault = plainly words told replies.NotBuilt answer tt
 says words told shaky (replies.Text text) answer fault = plainly words told (replies.Text text) answer tt
 says words told shaky (replies.TooLong parts.Netlist) answer fault = plainly words told (replies.TooLong parts.Netlist) answer tt
 says words told shaky (replies.TooLong parts.Dump) answer fault = plainly words told (replies.TooLong parts.Dump) answer tt

@@ -1,8 +1,7 @@
 pub mod Answering
 pub mod CommandWords
-pub mod DumpLits
 pub mod OneAnswer
 pub mod Pieces
 pub mod Sounding
-pub mod TableBits
+pub mod TableCells
 pub mod TableRows

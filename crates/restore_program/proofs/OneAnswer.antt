@@ -1,5 +1,5 @@
 -- There is one answer at most, and accepted inputs are answered.
-use Rattle.std.proofs.Common.{◌≡◌, ◌≢◌, ◌⊎◌, ℕ, ◌≤◌, ◌<◌, Bool, true, false, List, [], ◌∷◌, ◌++◌, length, map, get_or, Some, refl, sym, ap, subst, ◌∙◌, inl, inr, arith}
+use Rattle.std.proofs.Common.{◌≡◌, ◌⊎◌, ℕ, ◌≤◌, ◌<◌, Bool, true, false, List, [], ◌∷◌, ◌++◌, length, get_or, Some, refl, sym, ap, subst, ◌∙◌, inl, inr, arith}
 use Rattle.std.specs.Prelude.{codes}
 use Rattle.std.proofs.lemmas.Option.{same_Some}
 use mathlib.Core.Path.{fun_ext}
@@ -9,12 +9,9 @@ use Rattle.sr_model.specs.Declaration.{Declaration}
 use Rattle.sr_model.specs.Closure.{LitSet, HasBoth, SameLits, lit, passing}
 use Rattle.sr_outside.specs.Told.{Held}
 use Rattle.bench_reader.specs.Grammar as grammar
-use Rattle.bench_reader.specs.Refusal as bench_refusal
-use Rattle.bench_reader.specs.declared.reader.BenchRefusal.{BenchRefusal}
-use Rattle.bench_reader.specs.declared.reader.BenchRefusal.TheVariants as bench
 use Rattle.bench_reader.specs.Printed.{bench_text}
 use Rattle.bench_reader.proofs.BenchLaws as texts
-use Rattle.netlist.specs.Circuit.{Circuit, IsCircuit, IsNetlist, circuit_of}
+use Rattle.netlist.specs.Circuit.{Circuit, IsCircuit, circuit_of}
 use Rattle.std.specs.Fmt.{decimal}
 use Rattle.std.specs.List.{All}
 use Rattle.std.proofs.lemmas.List.Elements.{All-map}
@@ -27,19 +24,15 @@ use Rattle.netlist.specs.Checks as checks
 use Rattle.netlist.specs.declared.checks.NetRefusal.{NetRefusal}
 use Rattle.netlist.specs.declared.checks.NetRefusal.TheVariants as net
 use Rattle.dump_reader.specs.Recording.{Recording}
-use Rattle.dump_reader.specs.declared.refusal.DumpRefusal.{DumpRefusal}
-use Rattle.dump_reader.specs.declared.refusal.DumpRefusal.TheVariants as dumps
 use Rattle.dump_reader.proofs.SameRows.{one_reading}
 use Rattle.dump_reader.proofs.RefusedOnce as dump_laws
-use Rattle.plain_close.specs.Simple.{IsSimple}
 use Rattle.restore_program.specs.declared.status.Status.{Status}
 use Rattle.restore_program.specs.declared.status.Status.TheVariants as statuses
-use Rattle.restore_program.specs.Answer.{most_bytes, IsNetlistText, RefusedNetlist, netlist_too_long, bad_line, no_netlist, IsDumpText, IsDumpRefusal, SpellsDump, KnownFrom, OnDump, dump_too_long, bad_dump, not_built, clash, table, IsNetlistOf, OnRefused, DumpAnswer, RestoreAnswer, PrintAnswer, Answer, usage, restore, print}
+use Rattle.restore_program.specs.Answer.{most_bytes, IsNetlistText, RefusedNetlist, netlist_too_long, bad_line, no_netlist, IsDumpText, KnownFrom, OnDump, dump_too_long, bad_dump, clash, table, IsNetlistOf, OnRefused, DumpAnswer, RestoreAnswer, PrintAnswer, usage, restore, print}
 use Rattle.restore_program.specs.AnswerLaws.{HasOneAnswer, AcceptedIsAnswered, PrintableIsPrinted}
 use Rattle.restore_program.specs.Reply.{bench_line, net_line, dump_line, clash_line}
-use Rattle.restore_program.specs.Sound.{Accepts, IsPrintable}
 use Rattle.restore_program.specs.TableText.{table_text}
-use Rattle.restore_program.specs.Words.{Restores, Prints, IsCommand}
+use Rattle.restore_program.specs.Words.{Restores, Prints}
 use Rattle.restore_program.proofs.CommandWords.{print_or_restore}
 
 -- no list is both too long and not
@@ -158,31 +151,22 @@ no_table c d cell test both passes no_clash = no_clash cell (passes.1 (lit cell 
 one_on_dump : (c : Circuit) (bytes text other : List ℕ) (status last : Status) → IsCircuit c → OnDump c bytes text status → OnDump c bytes other last → (text ≡ other) × (status ≡ last)
 one_on_dump c bytes text other status last circuit (dump_too_long long) (dump_too_long _) = (refl, refl)
 one_on_dump c bytes text other status last circuit (dump_too_long long) (bad_dump _ short _ _) = absurd (not_longer bytes short long)
-one_on_dump c bytes text other status last circuit (dump_too_long long) (not_built _ is _) = absurd (not_longer bytes is.0 long)
-one_on_dump c bytes text other status last circuit (dump_too_long long) (clash _ _ is _ _) = absurd (not_longer bytes is.0 long)
-one_on_dump c bytes text other status last circuit (dump_too_long long) (table _ _ is _ _ _) = absurd (not_longer bytes is.0 long)
+one_on_dump c bytes text other status last circuit (dump_too_long long) (clash _ _ is _) = absurd (not_longer bytes is.0 long)
+one_on_dump c bytes text other status last circuit (dump_too_long long) (table _ _ is _ _) = absurd (not_longer bytes is.0 long)
 one_on_dump c bytes text other status last circuit (bad_dump _ short _ _) (dump_too_long long) = absurd (not_longer bytes short long)
 one_on_dump c bytes text other status last circuit (bad_dump r _ some is) (bad_dump s _ some_s is_s) = (ap dump_line (dump_laws.one_refusal c bytes r s circuit is is_s some some_s), refl)
-one_on_dump c bytes text other status last circuit (bad_dump r _ some is) (not_built d read _) = absurd (some (dump_laws.not_both c bytes d r circuit read.1 is))
-one_on_dump c bytes text other status last circuit (bad_dump r _ some is) (clash d _ read _ _) = absurd (some (dump_laws.not_both c bytes d r circuit read.1 is))
-one_on_dump c bytes text other status last circuit (bad_dump r _ some is) (table d _ read _ _ _) = absurd (some (dump_laws.not_both c bytes d r circuit read.1 is))
-one_on_dump c bytes text other status last circuit (not_built _ is _) (dump_too_long long) = absurd (not_longer bytes is.0 long)
-one_on_dump c bytes text other status last circuit (not_built d read _) (bad_dump r _ some is) = absurd (some (dump_laws.not_both c bytes d r circuit read.1 is))
-one_on_dump c bytes text other status last circuit (not_built _ _ _) (not_built _ _ _) = (refl, refl)
-one_on_dump c bytes text other status last circuit (not_built _ _ other_gate) (clash _ _ _ simple _) = absurd (other_gate simple)
-one_on_dump c bytes text other status last circuit (not_built _ _ other_gate) (table _ _ _ simple _ _) = absurd (other_gate simple)
-one_on_dump c bytes text other status last circuit (clash _ _ is _ _) (dump_too_long long) = absurd (not_longer bytes is.0 long)
-one_on_dump c bytes text other status last circuit (clash d _ read _ _) (bad_dump r _ some is) = absurd (some (dump_laws.not_both c bytes d r circuit read.1 is))
-one_on_dump c bytes text other status last circuit (clash _ _ _ simple _) (not_built _ _ other_gate) = absurd (other_gate simple)
-one_on_dump c bytes text other status last circuit (clash _ _ _ _ _) (clash _ _ _ _ _) = (refl, refl)
-one_on_dump c bytes text other status last circuit (clash a cell read _ both) (table b test again _ passes no_clash) =
+one_on_dump c bytes text other status last circuit (bad_dump r _ some is) (clash d _ read _) = absurd (some (dump_laws.not_both c bytes d r circuit read.1 is))
+one_on_dump c bytes text other status last circuit (bad_dump r _ some is) (table d _ read _ _) = absurd (some (dump_laws.not_both c bytes d r circuit read.1 is))
+one_on_dump c bytes text other status last circuit (clash _ _ is _) (dump_too_long long) = absurd (not_longer bytes is.0 long)
+one_on_dump c bytes text other status last circuit (clash d _ read _) (bad_dump r _ some is) = absurd (some (dump_laws.not_both c bytes d r circuit read.1 is))
+one_on_dump c bytes text other status last circuit (clash _ _ _ _) (clash _ _ _ _) = (refl, refl)
+one_on_dump c bytes text other status last circuit (clash a cell read both) (table b test again passes no_clash) =
     absurd (no_table c b cell test (subst (λ d. HasBoth (KnownFrom c d) cell) (one_recording c bytes a b circuit read again) both) passes no_clash)
-one_on_dump c bytes text other status last circuit (table _ _ is _ _ _) (dump_too_long long) = absurd (not_longer bytes is.0 long)
-one_on_dump c bytes text other status last circuit (table d _ read _ _ _) (bad_dump r _ some is) = absurd (some (dump_laws.not_both c bytes d r circuit read.1 is))
-one_on_dump c bytes text other status last circuit (table _ _ _ simple _ _) (not_built _ _ other_gate) = absurd (other_gate simple)
-one_on_dump c bytes text other status last circuit (table a test read _ passes no_clash) (clash b cell again _ both) =
+one_on_dump c bytes text other status last circuit (table _ _ is _ _) (dump_too_long long) = absurd (not_longer bytes is.0 long)
+one_on_dump c bytes text other status last circuit (table d _ read _ _) (bad_dump r _ some is) = absurd (some (dump_laws.not_both c bytes d r circuit read.1 is))
+one_on_dump c bytes text other status last circuit (table a test read passes no_clash) (clash b cell again both) =
     absurd (no_table c a cell test (subst (λ d. HasBoth (KnownFrom c d) cell) (one_recording c bytes b a circuit again read) both) passes no_clash)
-one_on_dump c bytes text other status last circuit (table a test read _ passes _) (table b final again _ passes_final _) =
+one_on_dump c bytes text other status last circuit (table a test read passes _) (table b final again passes_final _) =
     let same : a ≡ b = one_recording c bytes a b circuit read again in
     let tests : test ≡ final = same_test (KnownFrom c b) test final (subst (λ d. SameLits (passing test) (KnownFrom c d)) same passes) passes_final in
     (ap (λ (d : Recording). table_text c d.cycles test) same ∙ ap (table_text c b.cycles) tests, refl)
@@ -234,21 +218,20 @@ one_answer words held text other status last (print netlist _ _ asks on) (print 
 IsTableOrClash : List ℕ → Status → Type 0
 IsTableOrClash text status = (status ≡ statuses.Done) ⊎ ((status ≡ statuses.Dump) × (text ≡ clash_line))
 
-dump_answered : (c : Circuit) (bytes : List ℕ) (d : Recording) (text : List ℕ) (status : Status) → IsCircuit c → IsDumpText c bytes d → IsSimple c.drivers → OnDump c bytes text status → IsTableOrClash text status
+dump_answered : (c : Circuit) (bytes : List ℕ) (d : Recording) (text : List ℕ) (status : Status) → IsCircuit c → IsDumpText c bytes d → OnDump c bytes text status → IsTableOrClash text status
 unfolding IsTableOrClash
-dump_answered c bytes d text status circuit is simple (dump_too_long long) = absurd (not_longer bytes is.0 long)
-dump_answered c bytes d text status circuit is simple (bad_dump r _ some bad) = absurd (some (dump_laws.not_both c bytes d r circuit is.1 bad))
-dump_answered c bytes d text status circuit is simple (not_built _ _ other_gate) = absurd (other_gate simple)
-dump_answered c bytes d text status circuit is simple (clash _ _ _ _ _) = inr (refl, refl)
-dump_answered c bytes d text status circuit is simple (table _ _ _ _ _ _) = inl refl
+dump_answered c bytes d text status circuit is (dump_too_long long) = absurd (not_longer bytes is.0 long)
+dump_answered c bytes d text status circuit is (bad_dump r _ some bad) = absurd (some (dump_laws.not_both c bytes d r circuit is.1 bad))
+dump_answered c bytes d text status circuit is (clash _ _ _ _) = inr (refl, refl)
+dump_answered c bytes d text status circuit is (table _ _ _ _ _) = inl refl
 
 restore_answered : (held : Held) (netlist dump dump_bytes : List ℕ) (c : Circuit) (d : Recording) (text : List ℕ) (status : Status) → IsNetlistOf held netlist c → held dump ≡ Some dump_bytes → IsDumpText c dump_bytes d
-    → IsSimple c.drivers → RestoreAnswer held netlist dump text status → IsTableOrClash text status
-restore_answered held netlist dump dump_bytes c d text status is there read simple (inl refused) = absurd (never_both held netlist text status c refused is)
-restore_answered held netlist dump dump_bytes c d text status is there read simple (inr (own, own_is, (bytes, own_there, on))) =
+    → RestoreAnswer held netlist dump text status → IsTableOrClash text status
+restore_answered held netlist dump dump_bytes c d text status is there read (inl refused) = absurd (never_both held netlist text status c refused is)
+restore_answered held netlist dump dump_bytes c d text status is there read (inr (own, own_is, (bytes, own_there, on))) =
     let same : own ≡ c = same_netlist held netlist own c own_is is in
     let same_bytes : bytes ≡ dump_bytes = same_held held dump bytes dump_bytes own_there there in
-    dump_answered c dump_bytes d text status (is_circuit is.0 c is.2) read simple (subst (λ b. OnDump c b text status) same_bytes (subst (λ x. OnDump x bytes text status) same on))
+    dump_answered c dump_bytes d text status (is_circuit is.0 c is.2) read (subst (λ b. OnDump c b text status) same_bytes (subst (λ x. OnDump x bytes text status) same on))
 
 pub accepted_is_answered : AcceptedIsAnswered
 unfolding IsTableOrClash
@@ -256,7 +239,7 @@ accepted_is_answered words held c d a text status (usage refused) = absurd (refu
 accepted_is_answered words held c d a text status (print own _ _ own_asks _) = absurd (print_or_restore words (own, own_asks) (a.netlist, a.dump, a.asked))
 accepted_is_answered words held c d a text status (restore netlist dump _ _ asks on) =
     let same : (netlist ≡ a.netlist) × (dump ≡ a.dump) = same_names words netlist dump a.netlist a.dump asks a.asked in
-    restore_answered held a.netlist a.dump a.dump_bytes c d text status a.netlist_held a.dump_held a.dump_text a.simple
+    restore_answered held a.netlist a.dump a.dump_bytes c d text status a.netlist_held a.dump_held a.dump_text
     (subst (λ n. RestoreAnswer held n a.dump text status) same.0 (subst (λ x. RestoreAnswer held netlist x text status) same.1 on))
 
 printed_done : (held : Held) (netlist : List ℕ) (c : Circuit) (text : List ℕ) (status : Status) → IsNetlistOf held netlist c → PrintAnswer held netlist text status → status ≡ statuses.Done

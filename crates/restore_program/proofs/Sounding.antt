@@ -1,8 +1,8 @@
 -- What an answer says of the executions that match the dump.
-use Rattle.std.proofs.Common.{◌≡◌, ◌⊎◌, ℕ, ◌<◌, ◌≤◌, ◌&&◌, Bool, true, false, List, [], ◌∷◌, ◌++◌, length, get_or, map, Option, Some, None, IsTrue, inl, inr, arith, refl, sym, subst, ap, ◌∙◌, eqb}
+use Rattle.std.proofs.Common.{◌≡◌, ◌⊎◌, ℕ, ◌<◌, ◌&&◌, Bool, true, false, List, [], ◌∷◌, ◌++◌, length, get_or, map, Option, Some, None, IsTrue, inl, inr, arith, refl, sym, subst, ap, ◌∙◌, eqb}
 use Rattle.std.specs.Prelude.{◌==◌, slice_get, if◌then◌else◌, IfSome}
 use Rattle.std.specs.Io.KnownBytes.{append_known}
-use Rattle.std.proofs.lemmas.Bool.{cases_Bool, or_cases, or_left, eqb-false, false≢true}
+use Rattle.std.proofs.lemmas.Bool.{cases_Bool, and_parts, or_cases, or_left, eqb-true, eqb-false, false≢true}
 use Rattle.std.proofs.lemmas.Option.{slice_get_within, get_or_from_slice_get, same_Some}
 use Rattle.std.proofs.lemmas.List.{append_cancel_left}
 use Rattle.std.proofs.lemmas.List.FromFn.{get_or-map-range_with_len, length-map-range_with_len}
@@ -13,28 +13,41 @@ use Rattle.sr_model.specs.Closure.{SameLits, passing, lit}
 use Rattle.sr_model.specs.Dump.{Row, Known, Matches, dump_has, is_bit}
 use Rattle.sr_model.proofs.ClosureLaws.{sound, no_execution_has_both}
 use Rattle.sr_outside.specs.Told.{Held}
-use Rattle.bench_reader.specs.declared.reader.BenchRefusal.TheVariants as bench
-use Rattle.netlist.specs.declared.checks.NetRefusal.TheVariants as net
 use Rattle.netlist.specs.Circuit.{Circuit, unrolled_over}
 use Rattle.netlist.specs.Wiring.{flip_flops}
 use Rattle.dump_reader.specs.declared.refusal.DumpRefusal.{DumpRefusal}
 use Rattle.dump_reader.specs.declared.refusal.DumpRefusal.TheVariants as dumps
-use Rattle.dump_reader.specs.Recording.{Recording}
 use Rattle.restore_program.specs.declared.status.Status.{Status}
 use Rattle.restore_program.specs.declared.status.Status.TheVariants as statuses
 use Rattle.restore_program.specs.declared.reply.Part.TheVariants as parts
 use Rattle.restore_program.specs.declared.reply.Reply.{Reply}
-use Rattle.restore_program.specs.declared.reply.Reply.TheVariants as replies
-use Rattle.restore_program.specs.Reply.{clash_line, too_long_line, dump_line, usage_line, text_of, status_of}
-use Rattle.restore_program.specs.TableText.{known_bit, known_row, known_rows, table_text}
-use Rattle.restore_program.specs.Words.{Restores, Prints, IsRestore}
-use Rattle.restore_program.specs.Answer.{IsPlain, ReplyAnswer, Answer, usage, restore, print, RefusedNetlist, netlist_too_long, bad_line, no_netlist, OnRefused, RestoreAnswer, PrintAnswer, IsNetlistOf, DumpAnswer, OnDump, dump_too_long, bad_dump, not_built, clash, table}
-use Rattle.restore_program.specs.Sound.{Accepts, IsAccepted, IsPrintable, IsSoundTable, NoneMatches, Finishes}
+use Rattle.restore_program.specs.Reply.{clash_line, too_long_line, dump_line, text_of, status_of}
+use Rattle.restore_program.specs.TableText.{known_bit, known_row}
+use Rattle.restore_program.specs.Words.{Restores, IsRestore}
+use Rattle.restore_program.specs.Answer.{IsPlain, ReplyAnswer, Answer, usage, restore, print, RefusedNetlist, netlist_too_long, bad_line, no_netlist, PrintAnswer, IsNetlistOf, OnDump, dump_too_long, bad_dump, clash, table}
+use Rattle.restore_program.specs.Sound.{IsAccepted, IsPrintable, IsSoundTable, NoneMatches, Finishes}
 use Rattle.restore_program.proofs.CommandWords.{print_or_restore}
-use Rattle.restore_program.proofs.DumpLits.{row_knows}
 use Rattle.restore_program.proofs.OneAnswer.{accepted_is_answered, printable_is_printed}
 
 -- ---- the bits of a table are known
+
+is_bit-known : (o : Option (Option Bool)) (b : Bool) → is_bit o b ≡ true → o ≡ Some (Some b)
+is_bit-known (Some (Some true)) true e = refl
+is_bit-known (Some (Some true)) false e = absurd (false≢true e)
+is_bit-known (Some (Some false)) true e = absurd (false≢true e)
+is_bit-known (Some (Some false)) false e = refl
+is_bit-known (Some None) b e = absurd (false≢true e)
+is_bit-known None b e = absurd (false≢true e)
+
+-- a row that has a literal has its signal and, in its cycle, its bit
+row_knows : (row : Row) (l : Lit) → IsTrue (dump_has (row ∷ []) l) → (row.sig.0 ≡ l.cell.sig.0) × (slice_get row.bits l.cell.cycle ≡ Some (Some l.bit))
+row_knows row l h =
+    elim (or_cases (eqb row.sig.0 l.cell.sig.0 && is_bit (slice_get row.bits l.cell.cycle) l.bit) false h) [
+      | inl here ↦
+          let parts : (eqb row.sig.0 l.cell.sig.0 ≡ true) × (is_bit (slice_get row.bits l.cell.cycle) l.bit ≡ true) = and_parts (eqb row.sig.0 l.cell.sig.0) (is_bit (slice_get row.bits l.cell.cycle) l.bit) here in
+          (eqb-true row.sig.0 l.cell.sig.0 parts.0, is_bit-known (slice_get row.bits l.cell.cycle) l.bit parts.1)
+      | inr none ↦ absurd (false≢true none)
+    ]
 
 known_bit-known : (known : Lit → Bool) (cycle : ℕ) (sig : Sig) (bit : Bool) → known_bit known cycle sig ≡ Some bit → known (lit (cell_at cycle sig) bit) ≡ true
 known_bit-known known cycle sig bit e =
@@ -89,14 +102,13 @@ sound_dump : (words : List (List ℕ)) (held : Held) (netlist dump bytes : List 
     → held dump ≡ Some bytes → OnDump c bytes text status → status ≡ statuses.Done → IsSoundTable words text held
 sound_dump words held netlist dump bytes c text status asked is there (dump_too_long long) e = absurd cc
 sound_dump words held netlist dump bytes c text status asked is there (bad_dump r short some bad) e = absurd cc
-sound_dump words held netlist dump bytes c text status asked is there (not_built d read other) e = absurd cc
-sound_dump words held netlist dump bytes c text status asked is there (clash d cell read simple both) e = absurd cc
-sound_dump words held netlist dump bytes c text status asked is there (table d known read simple same no_clash) e =
+sound_dump words held netlist dump bytes c text status asked is there (clash d cell read both) e = absurd cc
+sound_dump words held netlist dump bytes c text status asked is there (table d known read same no_clash) e =
     let sigs : List Sig = flip_flops c.drivers in (
       c,
       d,
       map (known_row known d.cycles) sigs,
-      record { netlist = netlist; dump = dump; asked = asked; netlist_held = is; dump_bytes = bytes; dump_held = there; dump_text = read; simple = simple },
+      record { netlist = netlist; dump = dump; asked = asked; netlist_held = is; dump_bytes = bytes; dump_held = there; dump_text = read },
       refl,
       λ v runs matches. known_in_executions (unrolled_over c d.cycles) d.rows known d.cycles sigs same v runs matches,
     )
@@ -134,12 +146,11 @@ clash_dump : (words : List (List ℕ)) (held : Held) (netlist dump bytes : List 
     → held dump ≡ Some bytes → OnDump c bytes text status → status ≡ statuses.Dump → text ≡ clash_line → NoneMatches words held
 clash_dump words held netlist dump bytes c text status asked is there (dump_too_long long) s e = absurd (apart 17 (too_long_line parts.Dump) clash_line refl e)
 clash_dump words held netlist dump bytes c text status asked is there (bad_dump r short some bad) s e = absurd (dump_line-apart r e)
-clash_dump words held netlist dump bytes c text status asked is there (not_built d read other) s e = absurd cc
-clash_dump words held netlist dump bytes c text status asked is there (table d known read simple same no_clash) s e = absurd cc
-clash_dump words held netlist dump bytes c text status asked is there (clash d cell read simple both) s e = (
+clash_dump words held netlist dump bytes c text status asked is there (table d known read same no_clash) s e = absurd cc
+clash_dump words held netlist dump bytes c text status asked is there (clash d cell read both) s e = (
   c,
   d,
-  record { netlist = netlist; dump = dump; asked = asked; netlist_held = is; dump_bytes = bytes; dump_held = there; dump_text = read; simple = simple },
+  record { netlist = netlist; dump = dump; asked = asked; netlist_held = is; dump_bytes = bytes; dump_held = there; dump_text = read },
   λ v runs matches. no_execution_has_both (unrolled_over c d.cycles) (passing (dump_has d.rows)) cell both v runs matches,
 )
 

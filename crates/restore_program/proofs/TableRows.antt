@@ -1,25 +1,18 @@
 -- On the rows of a table.
-use Rattle.std.proofs.Common.{ℕ, ◌+◌, ◌*◌, ◌-◌, ◌<◌, ◌≤◌, ◌≡◌, ◌≢◌, Bool, List, [], ◌∷◌, ◌++◌, length, get_or, map, take, drop, set, Option, Some, None, refl, sym, ap, subst, ◌∙◌, arith}
-use Rattle.std.specs.Prelude.{slice_range}
-use Rattle.std.specs.List.{All, AllPairs, Contains, filter, range_with_len}
-use Rattle.std.proofs.lemmas.List.{length-map, length-take-le, get_or-take, take_more, map-append, take-map, drop-map}
+use Rattle.std.proofs.Common.{ℕ, ◌+◌, ◌<◌, ◌≤◌, ◌≡◌, ◌≢◌, Bool, List, [], ◌∷◌, ◌++◌, length, get_or, map, take, refl, sym, ap, subst, ◌∙◌, arith}
+use Rattle.std.specs.List.{All, AllPairs, Contains}
+use Rattle.std.proofs.lemmas.List.{length-take-le, get_or-take, take_all, take_more, map-append}
 use Rattle.std.proofs.lemmas.List.FromFn.{get_or-map-range_with_len, length-map-range_with_len}
-use Rattle.std.proofs.lemmas.List.Elements.{All-contains, All-filter, All-from_get_or, All-head, All-tail}
+use Rattle.std.proofs.lemmas.List.Elements.{All-contains, All-filter, All-from_get_or, All-get_or, All-map}
 use Rattle.std.proofs.lemmas.List.Kept.{AllPairs-filter}
 use Rattle.sr_model.specs.declared.cells.Sig.{Sig}
-use Rattle.sr_model.specs.declared.cells.Cell.{Cell}
 use Rattle.sr_model.specs.declared.cells.Lit.{Lit}
 use Rattle.sr_model.specs.Netlist.{Driver}
-use Rattle.sr_model.specs.Closure.{HasBoth, SameLits, passing}
 use Rattle.sr_model.specs.Dump.{Row}
 use Rattle.netlist.specs.Circuit.{Circuit}
 use Rattle.netlist.specs.Wiring.{driver_at, is_flip_flop, flip_flops, signals_below}
-use Rattle.dump_reader.specs.declared.dump.Tri.{Tri}
-use Rattle.dump_reader.specs.Recording.{Recording, bit_of, row_of, recorded}
-use Rattle.dump_reader.specs.Print.{printed}
-use Rattle.restore_program.specs.TableBits.{AreBits, row_there}
-use Rattle.restore_program.specs.TableText.{known_row, known_rows, table_text}
-use Rattle.restore_program.proofs.TableBits.{row_there-is}
+use Rattle.dump_reader.specs.Recording.{Recording, recorded}
+use Rattle.restore_program.specs.TableText.{known_row, known_rows}
 
 abbrev pub no_sig : Sig
 no_sig = record { 0 = 0 }
@@ -54,41 +47,37 @@ not_before sigs i d apart lt there =
     subst (λ (s : Sig). s ≢ get_or sigs i d) (sym (get_or-take i sigs k d less)) (apart k i d less lt)) in
     All-contains (λ s. s ≢ get_or sigs i d) (take i sigs) (get_or sigs i d) others there refl
 
-pub recorded_there : (bits : List (Option Bool)) (cycles : ℕ) (sigs : List Sig) → recorded (map (row_there bits cycles) sigs) ≡ sigs
-recorded_there bits cycles [] = refl
-recorded_there bits cycles (s ∷ sigs) = ap (λ (rest : List Sig). s ∷ rest) (recorded_there bits cycles sigs)
-
--- the row of a part of the cells
-row_of_slice : (cells : List Tri) (cycles : ℕ) (sig : Sig) (part : List Tri) → part ≡ slice_range cells (sig.0 * cycles) (sig.0 * cycles + cycles) → row_of sig part ≡ row_there (map bit_of cells) cycles sig
-row_of_slice cells cycles sig part e =
-    let a : ℕ = sig.0 * cycles in
-    let mapped : map bit_of part ≡ slice_range (map bit_of cells) a (a + cycles) =
-    ap (map bit_of) e ∙ sym (take-map bit_of (a + cycles - a) (drop a cells)) ∙ ap (take (a + cycles - a)) (sym (drop-map bit_of a cells)) in
-    ap (λ (bits : List (Option Bool)). record { sig = sig; bits = bits }) mapped
+-- the rows that are known, of these signals
+pub recorded-known : (known : Lit → Bool) (cycles : ℕ) (sigs : List Sig) → recorded (map (known_row known cycles) sigs) ≡ sigs
+recorded-known known cycles [] = refl
+recorded-known known cycles (s ∷ sigs) = ap (λ (rest : List Sig). s ∷ rest) (recorded-known known cycles sigs)
 
 -- one row more
-pub more_rows : (cells : List Tri) (cycles : ℕ) (sigs : List Sig) (i : ℕ) (d : Sig) (rows : List Row) (part : List Tri) → i < length sigs → rows ≡ map (row_there (map bit_of cells) cycles) (take i sigs)
-    → part ≡ slice_range cells ((get_or sigs i d).0 * cycles) ((get_or sigs i d).0 * cycles + cycles)
-    → rows ++ row_of (get_or sigs i d) part ∷ [] ≡ map (row_there (map bit_of cells) cycles) (take (i + 1) sigs)
-more_rows cells cycles sigs i d rows part lt before e =
-    let x : Sig = get_or sigs i d in
-    let f : Sig → Row = row_there (map bit_of cells) cycles in
-    ap (λ (rs : List Row). rs ++ row_of x part ∷ []) before ∙ ap (λ (r : Row). map f (take i sigs) ++ r ∷ []) (row_of_slice cells cycles x part e)
-    ∙ sym (map-append f (take i sigs) (x ∷ [])) ∙ ap (map f) (sym (take_more sigs i d lt))
+pub more_rows : (known : Lit → Bool) (cycles : ℕ) (sigs : List Sig) (i : ℕ) (d : Sig) (rows : List Row) (row : Row) → i < length sigs → rows ≡ map (known_row known cycles) (take i sigs)
+    → row ≡ known_row known cycles (get_or sigs i d) → rows ++ row ∷ [] ≡ map (known_row known cycles) (take (i + 1) sigs)
+more_rows known cycles sigs i d rows row lt before is =
+    let f : Sig → Row = known_row known cycles in
+    ap (λ (rs : List Row). rs ++ row ∷ []) before ∙ ap (λ (r : Row). map f (take i sigs) ++ r ∷ []) is
+    ∙ sym (map-append f (take i sigs) (get_or sigs i d ∷ [])) ∙ ap (map f) (sym (take_more sigs i d lt))
 
--- the rows that stand there are those that are known
-pub rows_known : (signals cycles : ℕ) (lits : List Lit) (bits : List (Option Bool)) (test : Lit → Bool) → AreBits signals cycles lits bits → SameLits (passing test) (Contains lits)
-    → ((c : Cell) → HasBoth (Contains lits) c → ⊥) → (sigs : List Sig) → All (λ s. s.0 < signals) sigs → map (row_there bits cycles) sigs ≡ map (known_row test cycles) sigs
-rows_known signals cycles lits bits test are same no_clash [] within = refl
-rows_known signals cycles lits bits test are same no_clash (s ∷ sigs) within =
-    let here : row_there bits cycles s ≡ known_row test cycles s = row_there-is signals cycles lits bits test s.0 are same no_clash (All-head (λ x. x.0 < signals) s sigs within) in
-    let rest : map (row_there bits cycles) sigs ≡ map (known_row test cycles) sigs = rows_known signals cycles lits bits test are same no_clash sigs (All-tail (λ x. x.0 < signals) s sigs within) in
-    ap (λ (r : Row). r ∷ map (row_there bits cycles) sigs) here ∙ ap (λ (rs : List Row). known_row test cycles s ∷ rs) rest
+-- a flip-flop by its place, in a list that has the flip-flops
+pub sig_within : (drivers : List Driver) (sigs : List Sig) (i : ℕ) (d : Sig) → sigs ≡ flip_flops drivers → i < length sigs → (get_or sigs i d).0 < length drivers
+sig_within drivers sigs i d is lt =
+    All-get_or (λ s. s.0 < length drivers) sigs i d lt (subst (λ (xs : List Sig). All (λ s. s.0 < length drivers) xs) (sym is) (flip_flops_within drivers))
 
--- the text of the rows is that of the table
-pub table_of : (c : Circuit) (cycles : ℕ) (lits : List Lit) (bits : List (Option Bool)) (d : Recording) (test : Lit → Bool) → AreBits (length c.drivers) cycles lits bits → d.cycles ≡ cycles
-    → d.rows ≡ map (row_there bits cycles) (flip_flops c.drivers) → ((cell : Cell) → HasBoth (Contains lits) cell → ⊥) → SameLits (passing test) (Contains lits) → printed c.names d ≡ table_text c cycles test
-table_of c cycles lits bits d test are same_cycles rows no_clash same =
-    let known : d.rows ≡ (known_rows c cycles test).rows =
-    rows ∙ rows_known (length c.drivers) cycles lits bits test are same no_clash (flip_flops c.drivers) (flip_flops_within c.drivers) in
-    ap (λ (rs : List Row). printed c.names (record { cycles = d.cycles; rows = rs })) known ∙ ap (λ n. printed c.names (record { cycles = n; rows = (known_rows c cycles test).rows })) same_cycles
+pub sig_new : (known : Lit → Bool) (cycles : ℕ) (drivers : List Driver) (sigs : List Sig) (i : ℕ) (d : Sig) (rows : List Row) → sigs ≡ flip_flops drivers → i < length sigs
+    → rows ≡ map (known_row known cycles) (take i sigs) → Contains (recorded rows) (get_or sigs i d) → ⊥
+sig_new known cycles drivers sigs i d rows is lt before there =
+    not_before sigs i d (subst (λ (xs : List Sig). AllPairs (λ a b. a ≢ b) xs) (sym is) (flip_flops_apart drivers)) lt
+    (subst (λ (xs : List Sig). Contains xs (get_or sigs i d)) (ap recorded before ∙ recorded-known known cycles (take i sigs)) there)
+
+-- all rows
+pub all_rows : (c : Circuit) (known : Lit → Bool) (cycles : ℕ) (sigs : List Sig) (i : ℕ) (d : Recording) → sigs ≡ flip_flops c.drivers → length sigs ≤ i → d.cycles ≡ cycles
+    → d.rows ≡ map (known_row known cycles) (take i sigs) → d ≡ known_rows c cycles known
+all_rows c known cycles sigs i d is all same rows =
+    let whole : d.rows ≡ map (known_row known cycles) (flip_flops c.drivers) = rows ∙ ap (map (known_row known cycles)) (take_all i sigs all ∙ is) in
+    ap (λ n. record { cycles = n; rows = d.rows }) same ∙ ap (λ (rs : List Row). record { cycles = cycles; rows = rs }) whole
+
+-- the rows of a table are of the netlist's signals
+pub rows_within : (c : Circuit) (known : Lit → Bool) (cycles : ℕ) → All (λ row. row.sig.0 < length c.drivers) (known_rows c cycles known).rows
+rows_within c known cycles = All-map (λ (row : Row). row.sig.0 < length c.drivers) (known_row known cycles) (flip_flops c.drivers) (flip_flops_within c.drivers)

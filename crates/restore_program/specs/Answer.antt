@@ -1,9 +1,9 @@
 -- What a run is to write, and how it is to end, by the words and the bytes that the inputs hold.
-use Rattle.std.specs.Prelude.{ℕ, ◌≡◌, ◌≢◌, ◌<◌, ◌≤◌, ◌⊎◌, ⊤, Bool, List, length, Option, Some, IfSome, Contains}
+use Rattle.std.specs.Prelude.{ℕ, ◌≡◌, ◌≢◌, ◌<◌, ◌≤◌, ◌⊎◌, ⊤, Bool, List, length, Option, Some, IfSome}
 use Rattle.sr_model.specs.declared.cells.Cell.{Cell}
 use Rattle.sr_model.specs.declared.cells.Lit.{Lit}
 use Rattle.sr_model.specs.Declaration.{Declaration}
-use Rattle.sr_model.specs.Closure.{Closure, HasBoth, SameLits, passing}
+use Rattle.sr_model.specs.Closure.{HasBoth, SameLits, passing}
 use Rattle.sr_model.specs.Dump.{Known}
 use Rattle.sr_outside.specs.Told.{Held, IsSteady}
 use Rattle.sr_outside.specs.declared.whole.ReadRefusal.{ReadRefusal}
@@ -22,14 +22,13 @@ use Rattle.dump_reader.specs.declared.refusal.DumpRefusal.TheVariants as dumps
 use Rattle.dump_reader.specs.Recording.{Recording}
 use Rattle.dump_reader.specs.Grammar as dump_grammar
 use Rattle.dump_reader.specs.Refusal as dump_refusal
-use Rattle.plain_close.specs.Simple.{IsSimple}
 use Rattle.restore_program.specs.declared.reply.Part.{Part}
 use Rattle.restore_program.specs.declared.reply.Part.TheVariants as parts
 use Rattle.restore_program.specs.declared.reply.Reply.{Reply}
 use Rattle.restore_program.specs.declared.reply.Reply.TheVariants as replies
 use Rattle.restore_program.specs.declared.status.Status.{Status}
 use Rattle.restore_program.specs.declared.status.Status.TheVariants as statuses
-use Rattle.restore_program.specs.Reply.{usage_line, too_long_line, bench_line, net_line, dump_line, not_built_line, clash_line, fault_line, no_memory_line, text_of, status_of}
+use Rattle.restore_program.specs.Reply.{usage_line, too_long_line, bench_line, net_line, dump_line, clash_line, fault_line, no_memory_line, text_of, status_of}
 use Rattle.restore_program.specs.TableText.{table_text}
 use Rattle.restore_program.specs.Words.{Restores, Prints, IsCommand}
 
@@ -74,9 +73,8 @@ KnownFrom c d = Known (unrolled_over c d.cycles) d.rows
 pub data OnDump (c : Circuit) (bytes : List ℕ) : List ℕ → Status → Type 0 where
   dump_too_long : most_bytes < length bytes → OnDump c bytes (too_long_line parts.Dump) statuses.Dump
   bad_dump : (r : DumpRefusal) → length bytes ≤ most_bytes → r ≢ dumps.NoMemory → IsDumpRefusal c bytes r → OnDump c bytes (dump_line r) statuses.Dump
-  not_built : (d : Recording) → IsDumpText c bytes d → ¬ IsSimple c.drivers → OnDump c bytes not_built_line statuses.Netlist
-  clash : (d : Recording) (cell : Cell) → IsDumpText c bytes d → IsSimple c.drivers → HasBoth (KnownFrom c d) cell → OnDump c bytes clash_line statuses.Dump
-  table : (d : Recording) (known : Lit → Bool) → IsDumpText c bytes d → IsSimple c.drivers → SameLits (passing known) (KnownFrom c d)
+  clash : (d : Recording) (cell : Cell) → IsDumpText c bytes d → HasBoth (KnownFrom c d) cell → OnDump c bytes clash_line statuses.Dump
+  table : (d : Recording) (known : Lit → Bool) → IsDumpText c bytes d → SameLits (passing known) (KnownFrom c d)
       → ((cell : Cell) → HasBoth (passing known) cell → ⊥) → OnDump c bytes (table_text c d.cycles known) statuses.Done
 
 -- ---- what the words ask for
@@ -130,13 +128,12 @@ unread_reply part refusals.Fault = replies.Fault part
 unread_reply part refusals.TooLong = replies.TooLong part
 unread_reply part refusals.NoMemory = replies.NoMemory
 
--- what is written of literals over so many cycles: the table of their closure, or that it has both literals of some cell
-abbrev pub OnLits : Circuit → ℕ → List Lit → Reply → Type 0
-OnLits c cycles lits replies.Clash = (cell : Cell) × HasBoth (Closure (unrolled_over c cycles) (Contains lits)) cell
-OnLits c cycles lits (replies.Text text) = (known : Lit → Bool) × SameLits (passing known) (Closure (unrolled_over c cycles) (Contains lits))
-    × ((cell : Cell) → HasBoth (passing known) cell → ⊥) × (text.items ≡ table_text c cycles known)
-OnLits c cycles lits replies.NoMemory = ⊤
-OnLits c cycles lits _ = ⊥
+-- what is written of the literals that are known over so many cycles: their table, or that some cell has both literals
+abbrev pub OnKnown : Circuit → ℕ → (Lit → Bool) → Reply → Type 0
+OnKnown c cycles known replies.Clash = (cell : Cell) × HasBoth (passing known) cell
+OnKnown c cycles known (replies.Text text) = ((cell : Cell) → HasBoth (passing known) cell → ⊥) × (text.items ≡ table_text c cycles known)
+OnKnown c cycles known replies.NoMemory = ⊤
+OnKnown c cycles known _ = ⊥
 
 -- what the words ask for is answered
 abbrev pub ReplyAnswer : List (List ℕ) → Option Held → Reply → Type 0

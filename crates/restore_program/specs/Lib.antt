@@ -4,7 +4,7 @@ pub mod Printing
 pub mod Reply
 pub mod Sound
 pub mod Status
-pub mod TableBits
+pub mod TableCells
 pub mod TableText
 pub mod Words
 pub mod Writes

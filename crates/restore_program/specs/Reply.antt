@@ -62,9 +62,6 @@ dump_line (dumps.BadBit line) = refused_line parts.Dump line (codes ": 16 bad bi
 dump_line (dumps.TooManyCells line product) = refused_line parts.Dump line (codes ": 17 too many cells " ++ decimal product ++ codes "\n")
 dump_line dumps.NoMemory = no_memory_line
 
-abbrev pub not_built_line : List ℕ
-not_built_line = codes "srestore: netlist: 28 not built yet\n"
-
 abbrev pub clash_line : List ℕ
 clash_line = codes "srestore: dump: 28 not built yet\n"
 
@@ -77,7 +74,6 @@ text_of (replies.TooLong part) = too_long_line part
 text_of (replies.Bench refusal) = bench_line refusal
 text_of (replies.Net refusal) = net_line refusal
 text_of (replies.Dumped refusal) = dump_line refusal
-text_of replies.NotBuilt = not_built_line
 text_of replies.Clash = clash_line
 text_of (replies.Fault part) = fault_line part
 text_of replies.NoMemory = no_memory_line
@@ -106,7 +102,6 @@ status_of (replies.TooLong part) = part_status part
 status_of (replies.Bench refusal) = bench_status refusal
 status_of (replies.Net refusal) = net_status refusal
 status_of (replies.Dumped refusal) = dump_status refusal
-status_of replies.NotBuilt = statuses.Netlist
 status_of replies.Clash = statuses.Dump
 status_of (replies.Fault part) = statuses.ReadFault
 status_of replies.NoMemory = statuses.NoMemory

@@ -6,13 +6,12 @@ use Rattle.sr_outside.specs.Told.{Held}
 use Rattle.netlist.specs.Circuit.{Circuit, unrolled_over}
 use Rattle.dump_reader.specs.Recording.{Recording}
 use Rattle.dump_reader.specs.Print.{printed}
-use Rattle.plain_close.specs.Simple.{IsSimple}
 use Rattle.restore_program.specs.declared.status.Status.{Status}
 use Rattle.restore_program.specs.declared.status.Status.TheVariants as statuses
 use Rattle.restore_program.specs.Answer.{IsNetlistOf, IsDumpText}
 use Rattle.restore_program.specs.Words.{Restores, Prints}
 
--- the words ask for a netlist and a dump that are held and accepted, with this recording, and all its gates are built
+-- the words ask for a netlist and a dump that are held and accepted, with this recording
 pub record Accepts (words : List (List ℕ)) (held : Held) (c : Circuit) (d : Recording) : Type 0 where
   pub netlist : List ℕ
   pub dump : List ℕ
@@ -21,7 +20,6 @@ pub record Accepts (words : List (List ℕ)) (held : Held) (c : Circuit) (d : Re
   pub dump_bytes : List ℕ
   pub dump_held : held dump ≡ Some dump_bytes
   pub dump_text : IsDumpText c dump_bytes d
-  pub simple : IsSimple c.drivers
 
 abbrev pub IsAccepted : List (List ℕ) → Held → Type 0
 IsAccepted words held = (c : Circuit) × (d : Recording) × Accepts words held c d

@@ -34,8 +34,6 @@ pub enum Reply {
     Net { refusal: NetRefusal },
     /// The dump's text is refused.
     Dumped { refusal: DumpRefusal },
-    /// The netlist has a gate that is neither a NOT nor an AND of two pins.
-    NotBuilt,
     /// Both literals of some cell follow from the dump.
     Clash,
     /// An input was not read.
@@ -56,7 +54,6 @@ pub(crate) fn reply_status(reply: &Reply) -> Status
         Reply::Bench { refusal } => bench_status(refusal),
         Reply::Net { refusal } => net_status(refusal),
         Reply::Dumped { refusal } => dump_status(refusal),
-        Reply::NotBuilt => Status::Netlist,
         Reply::Clash => Status::Dump,
         Reply::Fault { .. } => Status::ReadFault,
         Reply::NoMemory => Status::NoMemory,
@@ -110,7 +107,6 @@ pub(crate) fn write_reply<K: Sink>(reply: &Reply, out: &mut K) -> Result<(), Wri
         Reply::Bench { refusal } => write_bench_refusal(out, refusal),
         Reply::Net { refusal } => write_net_refusal(out, refusal),
         Reply::Dumped { refusal } => write_dump_refusal(out, refusal),
-        Reply::NotBuilt => write_text(out, b"srestore: netlist: 28 not built yet\n"),
         Reply::Clash => write_text(out, b"srestore: dump: 28 not built yet\n"),
         Reply::Fault { part } => write_fault(out, *part),
         Reply::NoMemory => write_text(out, b"srestore: no memory\n"),

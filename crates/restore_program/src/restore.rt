@@ -1,27 +1,31 @@
 //! From a netlist and a dump to the table.
-ghost use Rattle.std.specs.Prelude.{◌≡◌, ◌≢◌, ◌<◌, ◌≤◌, ◌↔◌, ◌⊎◌, ◌*◌, ◌∷◌, [], ℕ, List, IsTrue, length, All, Contains, IfOk, IfSome, OnOk};
-ghost use Rattle.dump_reader.specs.Recording.{bit_of, row_of};
-ghost use Rattle.sr_model.specs.declared.cells.Lit.{Lit as AnyLit};
-ghost use Rattle.sr_model.specs.Dump.{dump_has};
+ghost use Rattle.std.specs.Prelude.{◌≡◌, ◌≢◌, ◌<◌, ◌≤◌, ℕ, List, length, All, IfOk, IfSome};
+ghost use Rattle.sr_model.specs.Closure.{SameLits};
+ghost use Rattle.sr_model.specs.Dump.{Known};
 ghost use Rattle.sr_outside.specs.Counts.{IsCounted};
 ghost use Rattle.sr_outside.specs.Told.{IsSteady};
-ghost use Rattle.plain_close.specs.Simple.{IsSimple};
-ghost use Rattle.restore_program.specs.Answer.{most_bytes, OnDump, OnFault, OnLits, Replies, IsDumpFault, IsDumpText, IsFault, IsFaultOf, RestoreAnswer, DumpAnswer};
+ghost use Rattle.unroll.specs.Problem.{signals_in, unrolled};
+ghost use Rattle.known_planes.specs.Planes.{IsOf, has, lits};
+ghost use Rattle.restore_program.specs.Answer.{most_bytes, OnDump, OnFault, OnKnown, Replies, IsDumpFault, IsDumpText, IsFault, IsFaultOf, RestoreAnswer, DumpAnswer};
 
 use crate::netlists::{MOST_BYTES, read_netlist, unread};
 use crate::reply::{Part, Reply};
 use crate::table::table;
-use dump_reader::{Dump, Tri, read_dump};
+use dump_reader::{Dump, read_dump};
+use known_planes::{Closer, Planes, seed};
 use netlist::Netlist;
-use plain_close::{close_plain, is_simple};
-use sr_model::{Cell, Lit, Lits, NoMemory, Sig};
+use sr_model::NoMemory;
 use sr_outside::{Inputs, read_whole};
 use std::alloc::Global;
+use std::thread::Threads;
+use unroll::Problem;
 
 /// What is written of this netlist and this dump.
-pub(crate) fn restore_reply<I: Inputs>(
+pub(crate) fn restore_reply<R: Threads + Sync, I: Inputs, C: Closer>(
+    rt: &R,
     alloc: Global,
     inputs: &mut I,
+    closer: &mut C,
     netlist: &str,
     dump: &str,
 ) -> Reply
@@ -35,13 +39,20 @@ pub(crate) fn restore_reply<I: Inputs>(
         → I.faults inputs.new ≡ I.faults inputs.old }
 {
     match read_netlist(alloc, inputs, netlist) {
-        Ok(n) => dump_reply(alloc, inputs, &n, dump),
+        Ok(n) => dump_reply(rt, alloc, inputs, closer, &n, dump),
         Err(reply) => reply,
     }
 }
 
 /// What is written of this dump of a netlist.
-fn dump_reply<I: Inputs>(alloc: Global, inputs: &mut I, n: &Netlist, dump: &str) -> Reply
+fn dump_reply<R: Threads + Sync, I: Inputs, C: Closer>(
+    rt: &R,
+    alloc: Global,
+    inputs: &mut I,
+    closer: &mut C,
+    n: &Netlist,
+    dump: &str,
+) -> Reply
     ensures answer { IfSome (I.held inputs.old) (λ held. Replies (DumpAnswer held n.now dump.now) result) }
     ensures fault_of { OnFault (IsDumpFault (I.held inputs.old) (I.shaky inputs.old) dump.now) result }
     ensures not_usage { result ≢ Reply.Usage }
@@ -51,13 +62,19 @@ fn dump_reply<I: Inputs>(alloc: Global, inputs: &mut I, n: &Netlist, dump: &str)
     ensures steady { IsSteady (I.held inputs.old) (I.shaky inputs.old) dump.now → I.faults inputs.new ≡ I.faults inputs.old }
 {
     match read_whole(alloc, inputs, dump, MOST_BYTES) {
-        Ok(text) => recorded_reply(alloc, n, text.as_slice()),
+        Ok(text) => recorded_reply(rt, alloc, closer, n, text.as_slice()),
         Err(refusal) => unread(Part::Dump, refusal),
     }
 }
 
 /// What is written of a dump's text.
-fn recorded_reply(alloc: Global, n: &Netlist, bytes: &[u8]) -> Reply
+fn recorded_reply<R: Threads + Sync, C: Closer>(
+    rt: &R,
+    alloc: Global,
+    closer: &mut C,
+    n: &Netlist,
+    bytes: &[u8],
+) -> Reply
     requires short { length bytes.now ≤ most_bytes }
     ensures answer { Replies (OnDump n.now bytes.now) result }
     ensures not_usage { result ≢ Reply.Usage }
@@ -67,80 +84,57 @@ fn recorded_reply(alloc: Global, n: &Netlist, bytes: &[u8]) -> Reply
         Ok(dump) => dump,
         Err(refusal) => return Reply::Dumped { refusal },
     };
-    if !is_simple(n) {
-        return Reply::NotBuilt;
-    }
-    closed_reply(alloc, n, &dump)
+    let problem = Problem::new(n, dump.cycles());
+    closed_reply(rt, alloc, closer, &problem, &dump)
 }
 
-/// What is written of a dump of a netlist that can be closed.
-fn closed_reply(alloc: Global, n: &Netlist, dump: &Dump) -> Reply
-    requires simple { IsSimple n.now.drivers }
-    requires within { All (λ row. row.sig.0 < length n.now.drivers) dump.now.rows }
-    requires room { length n.now.drivers * dump.now.cycles ≤ 268435456 }
-    ensures answer { (bytes : List ℕ) → IsDumpText n.now bytes dump.now → Replies (OnDump n.now bytes) result }
+/// What is written of a dump over its cycles.
+fn closed_reply<R: Threads + Sync, C: Closer>(
+    rt: &R,
+    alloc: Global,
+    closer: &mut C,
+    p: &Problem,
+    dump: &Dump,
+) -> Reply
+    requires cycles { dump.now.cycles ≡ p.now.cycles }
+    requires signals { All (λ row. row.sig.0 < signals_in p.now) dump.now.rows }
+    ensures answer { (bytes : List ℕ) → IsDumpText p.now.circuit bytes dump.now → Replies (OnDump p.now.circuit bytes) result }
     ensures not_usage { result ≢ Reply.Usage }
     ensures no_fault { ¬ (IsFault result) }
 {
-    match lits_of(alloc, dump) {
-        Ok(lits) => restored_reply(alloc, n, dump.cycles(), &lits),
+    match known_from(rt, alloc, closer, p, dump) {
+        Ok(planes) => known_reply(alloc, p, &planes),
         Err(NoMemory) => Reply::NoMemory,
     }
 }
 
-/// What is written of the literals that a dump records.
-fn restored_reply(alloc: Global, n: &Netlist, cycles: u32, base: &Lits) -> Reply
-    requires simple { IsSimple n.now.drivers }
-    requires cycles { (1 ≤ cycles) × (cycles ≤ 8192) }
-    requires room { length n.now.drivers * cycles ≤ 268435456 }
-    requires within { All (λ l. (l.cell.sig.0 < length n.now.drivers) × (l.cell.cycle < cycles)) base.now.items }
-    ensures { OnLits n.now cycles base.now.items result }
+/// What is known from a dump: the closure of its literals.
+fn known_from<R: Threads + Sync, C: Closer>(
+    rt: &R,
+    alloc: Global,
+    closer: &mut C,
+    p: &Problem,
+    dump: &Dump,
+) -> Result<Planes, NoMemory>
+    requires cycles { dump.now.cycles ≡ p.now.cycles }
+    requires signals { All (λ row. row.sig.0 < signals_in p.now) dump.now.rows }
+    ensures of { IfOk result (IsOf p.now) }
+    ensures known { IfOk result (λ planes. SameLits (lits p.now planes) (Known (unrolled p.now) dump.now.rows)) }
 {
-    match close_plain(alloc, n, cycles, base) {
-        Ok(Some(known)) => match table(alloc, n, cycles, &known) {
-            Ok(text) => Reply::Text { text },
-            Err(NoMemory) => Reply::NoMemory,
-        },
-        Ok(None) => Reply::Clash,
+    let base = seed(alloc, p, dump)?;
+    closer.close(rt, alloc, p, &base)
+}
+
+/// What is written of what is known: a table, or that some cell has both literals.
+fn known_reply(alloc: Global, p: &Problem, planes: &Planes) -> Reply
+    requires { IsOf p.now planes.now }
+    ensures { OnKnown p.now.circuit p.now.cycles (has p.now planes.now) result }
+{
+    if planes.clash(p).is_some() {
+        return Reply::Clash;
+    }
+    match table(alloc, p, planes) {
+        Ok(text) => Reply::Text { text },
         Err(NoMemory) => Reply::NoMemory,
-    }
-}
-
-/// The literals of a dump, row by row and cycle by cycle.
-fn lits_of(alloc: Global, dump: &Dump) -> Result<Lits, NoMemory>
-    ensures { IfOk result (λ lits. (l : AnyLit) → Contains lits.items l ↔ IsTrue (dump_has dump.now.rows l)) }
-{
-    let mut lits = Lits::new(alloc);
-    for i in 0..dump.row_count() {
-        push_lits(&mut lits, dump.row_sig(i), dump.row_bits(i))?;
-    }
-    Ok(lits)
-}
-
-/// Adds the literals of a row, cycle by cycle.
-fn push_lits(lits: &mut Lits, sig: Sig, cells: &[Tri]) -> Result<(), NoMemory>
-    requires { length cells.now ≤ 8192 }
-    ensures { OnOk result ((l : AnyLit) → Contains lits.new.items l ↔ (Contains lits.old.items l ⊎ IsTrue (dump_has (row_of sig cells.now ∷ []) l))) }
-{
-    for (cycle, cell) in cells.iter().enumerate() {
-        if let Some(bit) = bit_of(*cell) {
-            let cell = Cell {
-                cycle: cycle as u32,
-                sig,
-            };
-            lits.push(Lit { cell, bit })?;
-        }
-    }
-    Ok(())
-}
-
-/// The bit of a cell, if it is given.
-fn bit_of(cell: Tri) -> Option<bool>
-    ensures { result ≡ bit_of cell }
-{
-    match cell {
-        Tri::Zero => Some(false),
-        Tri::One => Some(true),
-        Tri::X => None,
     }
 }

@@ -28,8 +28,6 @@ const DUMP_FAULT: &[u8] = b"srestore: read fault dump\n";
 
 const CLASH: &[u8] = b"srestore: dump: 28 not built yet\n";
 
-const NOT_BUILT: &[u8] = b"srestore: netlist: 28 not built yet\n";
-
 const RESTORE: [&str; 3] = ["restore", "net", "dump"];
 
 const PRINT: [&str; 2] = ["print", "net"];
@@ -325,43 +323,157 @@ fn too_many_cells(rt: HostRuntime) -> Result<(), Fail> {
 }
 
 #[test]
-fn gates_that_are_not_built(rt: HostRuntime) -> Result<(), Fail> {
-    let cases: [(&[u8], &[u8], &[u8], u8); 7] = [
-        (WITH_OR, DUMP, NOT_BUILT, 3),
-        // after what is wrong with the dump
+fn gates_of_every_kind(rt: HostRuntime) -> Result<(), Fail> {
+    let cases: [(&[u8], &[u8], &[u8], u8); 16] = [
+        (WITH_OR, DUMP, b"srdump 1\ncycles 2\nq x1\n", 0),
+        // forward, and back to the last pin
+        (
+            b"INPUT(a)\nINPUT(b)\nz = OR(a, b)\nq = DFF(z)\nr = DFF(b)\n",
+            b"srdump 1\ncycles 2\na 0x\nq x1\n",
+            b"srdump 1\ncycles 2\nq x1\nr x1\n",
+            0,
+        ),
+        (
+            b"INPUT(a)\nINPUT(b)\nz = OR(a, b)\nq = DFF(z)\nr = DFF(b)\n",
+            b"srdump 1\ncycles 2\nb 1x\n",
+            b"srdump 1\ncycles 2\nq x1\nr x1\n",
+            0,
+        ),
+        // back to every pin
+        (
+            b"INPUT(a)\nINPUT(b)\nz = NOR(a, b)\nq = DFF(z)\nr = DFF(b)\n",
+            b"srdump 1\ncycles 2\nq x1\n",
+            b"srdump 1\ncycles 2\nq x1\nr x0\n",
+            0,
+        ),
+        (
+            b"INPUT(a)\nINPUT(b)\nz = NAND(a, b)\nq = DFF(z)\nr = DFF(b)\n",
+            b"srdump 1\ncycles 2\nq x0\n",
+            b"srdump 1\ncycles 2\nq x0\nr x1\n",
+            0,
+        ),
+        (
+            b"INPUT(a)\nINPUT(b)\nz = NAND(a, b)\nq = DFF(z)\nr = DFF(b)\n",
+            b"srdump 1\ncycles 2\na 1x\nq x1\n",
+            b"srdump 1\ncycles 2\nq x1\nr x0\n",
+            0,
+        ),
+        (
+            b"INPUT(a)\nINPUT(b)\nz = XOR(a, b)\nq = DFF(z)\nr = DFF(b)\n",
+            b"srdump 1\ncycles 2\na 1x\nq x1\n",
+            b"srdump 1\ncycles 2\nq x1\nr x0\n",
+            0,
+        ),
+        (
+            b"INPUT(a)\nINPUT(b)\nz = XNOR(a, b)\nq = DFF(z)\nr = DFF(b)\n",
+            b"srdump 1\ncycles 2\na 1x\nq x1\n",
+            b"srdump 1\ncycles 2\nq x1\nr x1\n",
+            0,
+        ),
+        (
+            b"INPUT(a)\nINPUT(b)\nz = BUFF(b)\nq = DFF(z)\nr = DFF(b)\n",
+            b"srdump 1\ncycles 2\nq x0\n",
+            b"srdump 1\ncycles 2\nq x0\nr x0\n",
+            0,
+        ),
+        // of one pin, and of three
+        (
+            b"INPUT(a)\nINPUT(b)\nz = AND(b)\nq = DFF(z)\nr = DFF(b)\n",
+            b"srdump 1\ncycles 2\nq x0\n",
+            b"srdump 1\ncycles 2\nq x0\nr x0\n",
+            0,
+        ),
+        (
+            b"INPUT(a)\nINPUT(b)\nINPUT(c)\nz = AND(a, b, c)\nq = DFF(z)\nr = DFF(c)\n",
+            b"srdump 1\ncycles 2\na 1x\nb 1x\nq x0\n",
+            b"srdump 1\ncycles 2\nq x0\nr x0\n",
+            0,
+        ),
+        (
+            b"INPUT(a)\nINPUT(b)\nINPUT(c)\nz = XOR(a, b, c)\nq = DFF(z)\nr = DFF(c)\n",
+            b"srdump 1\ncycles 2\na 1x\nb 1x\nq x1\n",
+            b"srdump 1\ncycles 2\nq x1\nr x1\n",
+            0,
+        ),
+        // of one signal twice
+        (
+            b"INPUT(a)\nz = XOR(a, a)\nq = DFF(z)\n",
+            b"srdump 1\ncycles 2\n",
+            b"srdump 1\ncycles 2\nq x0\n",
+            0,
+        ),
+        // a contradiction at a gate, and what is wrong with a dump before it
+        (WITH_OR, b"srdump 1\ncycles 2\na 1x\nq x0\n", CLASH, 4),
         (
             WITH_OR,
-            b"srdump 1\ncycles 2\nz 0\n",
-            b"srestore: dump line 3: 15 row length\n",
+            b"srdump 1\ncycles 2\na 1x\nq x0\nz 0\n",
+            b"srestore: dump line 5: 15 row length\n",
             4,
         ),
+        // more than 64 cycles
         (
-            b"INPUT(a)\nz = AND(a)\n",
-            b"srdump 1\ncycles 1\n",
-            NOT_BUILT,
-            3,
+            APART,
+            b"srdump 1\ncycles 66\na 111111111111111111111111111111111111111111111111111111111111110x01\n",
+            b"srdump 1\ncycles 66\np x111111111111111111111111111111111111111111111111111111111111110x0\nq xxxxxxxxxxxxxxxxxxxxxxxxxxxxxxxxxxxxxxxxxxxxxxxxxxxxxxxxxxxxxxxxxx\n",
+            0,
         ),
+    ];
+    for (netlist, dump, text, code) in cases {
+        expect_restored(&rt, rt.alloc(), netlist, dump, (text, code))?;
+    }
+    Ok(())
+}
+
+/// Three flip-flops and ten gates.
+const SEVENTEEN: &[u8] =
+    b"INPUT(G0)\nINPUT(G1)\nINPUT(G2)\nINPUT(G3)\nOUTPUT(G17)\nG5 = DFF(G10)\nG6 = DFF(G11)\nG7 = DFF(G13)\nG14 = NOT(G0)\nG17 = NOT(G11)\nG8 = AND(G14, G6)\nG15 = OR(G12, G8)\nG16 = OR(G3, G8)\nG9 = NAND(G16, G15)\nG10 = NOR(G14, G11)\nG11 = NOR(G5, G9)\nG12 = NOR(G1, G7)\nG13 = NOR(G2, G12)\n";
+
+/// The same with CR LF, a kind in small letters, a comment and an output stated twice.
+const SEVENTEEN_LENIENT: &[u8] =
+    b"INPUT(G0)\r\nINPUT(G1)\r\nINPUT(G2)\r\nINPUT(G3)\r\nOUTPUT(G17)\r\nOUTPUT(G17)\r\nG5 = DFF(G10)\r\nG6 = DFF(G11)\r\nG7 = DFF(G13)\r\nG14 = NOT(G0)\r\nG17 = NOT(G11)\r\nG8 = AND(G14, G6)\r\nG15 = OR(G12, G8)\r\nG16 = OR(G3, G8)\r\nG9 = nand(G16, G15) # twice\r\nG10 = NOR(G14, G11)\r\nG11 = NOR(G5, G9)\r\nG12 = NOR(G1, G7)\r\nG13 = NOR(G2, G12)\r\n";
+
+#[test]
+fn worked_netlists(rt: HostRuntime) -> Result<(), Fail> {
+    let table: &[u8] = b"srdump 1\ncycles 2\nG5 11\nG6 x0\nG7 xx\n";
+    let dump: &[u8] = b"srdump 1\ncycles 2\nG5 11\n";
+    let cases: [(&[u8], &[u8], &[u8], u8); 9] = [
+        (SEVENTEEN, dump, table, 0),
+        (SEVENTEEN_LENIENT, dump, table, 0),
+        // a table is a dump of the same netlist, with the same table
+        (SEVENTEEN, table, table, 0),
+        // G11 is 0 by G5, and 1 by G6
+        (SEVENTEEN, b"srdump 1\ncycles 2\nG5 1x\nG6 x1\n", CLASH, 4),
+        // a flip-flop that drives itself, over four chunks
         (
-            b"INPUT(a)\nz = AND(a, a, a)\n",
-            b"srdump 1\ncycles 1\n",
-            NOT_BUILT,
-            3,
+            b"Q = DFF(Q)\n",
+            b"srdump 1\ncycles 200\nQ xxxxxxxxxxxxxxxxxxxxxxxxxxxxxxxxxxxxxxxxxxxxxxxxxxxxxxxxxxxxxxxxxxxxxxxxxxxxxxxxxxxxxxxxxxxxxxxxxxxxxxxxxxxxxxxxxxxxxxxxxxxxxxxxxx1xxxxxxxxxxxxxxxxxxxxxxxxxxxxxxxxxxxxxxxxxxxxxxxxxxxxxxxxxxxxxxxxxxxxx\n",
+            b"srdump 1\ncycles 200\nQ 11111111111111111111111111111111111111111111111111111111111111111111111111111111111111111111111111111111111111111111111111111111111111111111111111111111111111111111111111111111111111111111111111111111\n",
+            0,
         ),
+        // a constant gate, known from nothing
         (
-            b"INPUT(a)\nz = BUFF(a)\n",
-            b"srdump 1\ncycles 1\n",
-            NOT_BUILT,
-            3,
+            b"INPUT(a)\nz = XOR(a, a)\nq = DFF(z)\n",
+            b"srdump 1\ncycles 3\na xxx\n",
+            b"srdump 1\ncycles 3\nq x00\n",
+            0,
         ),
-        // and before a contradiction
+        // back over the end of a chunk
         (
-            b"INPUT(a)\nn = NOT(a)\nz = XOR(a, n)\n",
-            b"srdump 1\ncycles 1\na 1\nn 1\n",
-            NOT_BUILT,
-            3,
+            b"INPUT(a)\nq = DFF(a)\n",
+            b"srdump 1\ncycles 65\nq xxxxxxxxxxxxxxxxxxxxxxxxxxxxxxxxxxxxxxxxxxxxxxxxxxxxxxxxxxxxxxxx1\n",
+            b"srdump 1\ncycles 65\nq xxxxxxxxxxxxxxxxxxxxxxxxxxxxxxxxxxxxxxxxxxxxxxxxxxxxxxxxxxxxxxxx1\n",
+            0,
         ),
+        // what follows only from two gates together is missed
         (
-            b"INPUT(a)\nz = AND(a, a)\n",
+            b"INPUT(a)\nn = NOT(a)\no = OR(a, n)\nq = DFF(o)\n",
+            b"srdump 1\ncycles 2\na xx\n",
+            b"srdump 1\ncycles 2\nq xx\n",
+            0,
+        ),
+        // no flip-flop
+        (
+            b"INPUT(a)\no = AND(a, a)\n",
             b"srdump 1\ncycles 1\n",
             b"srdump 1\ncycles 1\n",
             0,

@@ -15,6 +15,8 @@ use crate::reply::{Reply, reply_status, write_reply};
 use crate::restore::restore_reply;
 use crate::status::Status;
 use crate::words::{Settings, WordRefusal, read_words};
+use known_planes::Closer;
+use plain_close::PlainCloser;
 use sr_outside::{Inputs, Sink, WriteFault};
 use std::alloc::Global;
 use std::thread::Threads;
@@ -62,8 +64,8 @@ pub fn run<R: Threads + Sync, I: Inputs, K: Sink>(
         × Says (map string_bytes words.now) (I.held inputs.old) (I.shaky inputs.old) text status }
     ensures full { result ≡ Status.WriteFault → IsFull (K.written out.new) (K.room out.new) }
 {
-    let _ = rt;
-    let reply = reply_to(alloc, words, inputs);
+    let mut closer = PlainCloser::new();
+    let reply = reply_to(rt, alloc, words, inputs, &mut closer);
     match write_reply(&reply, out) {
         Ok(()) => reply_status(&reply),
         Err(WriteFault) => Status::WriteFault,
@@ -71,7 +73,13 @@ pub fn run<R: Threads + Sync, I: Inputs, K: Sink>(
 }
 
 /// What is written of these words.
-fn reply_to<I: Inputs>(alloc: Global, words: &[String], inputs: &mut I) -> Reply
+fn reply_to<R: Threads + Sync, I: Inputs, C: Closer>(
+    rt: &R,
+    alloc: Global,
+    words: &[String],
+    inputs: &mut I,
+    closer: &mut C,
+) -> Reply
     ensures answer { ReplyAnswer (map string_bytes words.now) (I.held inputs.old) result }
     ensures fault_of { OnFault (IsWordsFault (map string_bytes words.now) (I.held inputs.old) (I.shaky inputs.old)) result }
     ensures usage { result ≡ Reply.Usage → ¬ IsCommand (map string_bytes words.now) }
@@ -81,7 +89,14 @@ fn reply_to<I: Inputs>(alloc: Global, words: &[String], inputs: &mut I) -> Reply
     ensures steady { AreSteady (I.held inputs.old) (I.shaky inputs.old) (map string_bytes words.now) → I.faults inputs.new ≡ I.faults inputs.old }
 {
     match read_words(words) {
-        Ok(Settings::Restore) => restore_reply(alloc, inputs, words[1].as_str(), words[2].as_str()),
+        Ok(Settings::Restore) => restore_reply(
+            rt,
+            alloc,
+            inputs,
+            closer,
+            words[1].as_str(),
+            words[2].as_str(),
+        ),
         Ok(Settings::Print) => print_reply(alloc, inputs, words[1].as_str()),
         Err(WordRefusal::Usage) => Reply::Usage,
     }

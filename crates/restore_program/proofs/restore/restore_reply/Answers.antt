@@ -1,7 +1,7 @@
-use Rattle.std.proofs.Common.{List, ℕ, Bool, Option, sym, subst}
+use Rattle.std.proofs.Common.{List, ℕ, Bool, Option, subst}
 use Rattle.std.specs.Prelude.{IfSome}
 use Rattle.sr_outside.specs.Told.{Held}
-use Rattle.restore_program.specs.Answer.{RestoreAnswer, DumpAnswer, IsNetlistFault, IsDumpFault, IsFaultOf, OnFault, Replies}
+use Rattle.restore_program.specs.Answer.{DumpAnswer, IsNetlistFault, IsDumpFault, IsFaultOf, OnFault, Replies}
 use Rattle.restore_program.proofs.Answering.{restore_read, restore_refused, faults_also, netlist_fault_of, dump_fault_of}
 use Rattle.restore_program.proofs.restore.restore_reply.Goals as goal
 

@@ -1,0 +1,157 @@
+-- Tasks that wait, task after task.
+use Rattle.std.proofs.Common.{ℕ, ◌≡◌, ◌<◌, ◌≤◌, ◌⊎◌, ◌+◌, ◌-◌, ◌&&◌, true, not, eqb, cond, ltb, Some, None, List, [], ◌∷◌, ◌++◌, length, map, get_or, take, inl, inr, refl, sym, ap, subst, ◌∙◌}
+use Rattle.std.specs.List.{Contains}
+use Rattle.std.proofs.lemmas.Bool.{cases_Bool, and_parts, lt-ltb, ltb-true}
+use Rattle.std.proofs.lemmas.List.{take_more, take_all, append_assoc, map-append}
+use Rattle.std.proofs.lemmas.List.Elements.{Contains-append_cases, Contains-get_or}
+use Rattle.sr_model.specs.declared.cells.Sig.{Sig}
+use Rattle.sr_model.specs.declared.gates.Kind.{Kind}
+use Rattle.sr_model.specs.declared.gates.Kind.TheVariants.{And, Nand, Or, Nor, Xor, Xnor, Not, Buf, Dff}
+use Rattle.sr_model.specs.Netlist.{Driver, Input, Driven}
+use Rattle.sr_model.proofs.Members.{not_in_nil, Contains-cases, filter-member, filter-passes}
+use Rattle.netlist.specs.Wiring.{driver_at, kind_of, is_flip_flop, is_driven, reads, other_readers, signals_below, readers}
+use Rattle.unroll.specs.declared.problem.Task.{Task}
+use Rattle.unroll.specs.Problem.{Unrolling, IsProblem, signals_in, chunks_in}
+use Rattle.unroll.specs.Tasks.{IsTask, task_at, target_of, target_block, chunk_of, own_tasks, adjacent_from, constant_tasks}
+use Rattle.unroll.proofs.BlockNumbers.{block-sig, block-chunk, sig-within, chunk-within, some_chunk, task-itself}
+use Rattle.unroll.proofs.AdjacentTasks.{reader-within}
+use Rattle.unroll.proofs.ConstantTasks.{force_from_nothing}
+use Rattle.plain_close.specs.Queues.{Waiting, Waits}
+use Rattle.plain_close.specs.Turns.{IsTaskAt, AreTasksOf, TaskWaits, Pushed}
+
+some-kind : (a b : Kind) → Some a ≡ Some b → a ≡ b
+some-kind a b e = cc
+
+-- what waits by signal and chunk waits by its number
+pub task-waits : (u : Unrolling) (q : Waiting) (target : Sig) (chunk : ℕ) → chunk < chunks_in u → Waits q target chunk → TaskWaits u q (task_at u target chunk)
+task-waits u q target chunk early h =
+    subst (λ s. Waits q s (chunk_of u (task_at u target chunk))) (sym (block-sig u target chunk early)) (subst (λ c. Waits q target c) (sym (block-chunk u target chunk early)) h)
+
+pub pushed-one : (u : Unrolling) (target : Sig) (chunk : ℕ) (old new : Waiting) → AreTasksOf u old → IsTaskAt u target chunk → new.signals ≡ old.signals → length new.rows ≡ length old.rows
+    → Waits new target chunk → ((s : Sig) (c : ℕ) → Waits old s c → Waits new s c) → ((s : Sig) (c : ℕ) → Waits new s c → Waits old s c ⊎ ((s ≡ target) × (c ≡ chunk)))
+    → Pushed u (task_at u target chunk ∷ []) old new
+pushed-one u target chunk old new are is signals chunks waits kept only = record {
+  are_tasks = record {
+    signals = signals ∙ are.signals;
+    chunks = chunks ∙ are.chunks;
+    tasks = λ s c h. elim (only s c h) [
+      | inl before ↦ are.tasks s c before
+      | inr e ↦ subst (λ x. IsTaskAt u x c) (sym e.0) (subst (IsTaskAt u target) (sym e.1) is)
+    ];
+  };
+  kept = λ t h. kept (target_of u t) (chunk_of u t) h;
+  pushed = λ t h. elim (Contains-cases (task_at u target chunk) [] t h) [
+    | inl e ↦ subst (TaskWaits u new) e (task-waits u new target chunk is.early waits)
+    | inr none ↦ absurd (not_in_nil t none)
+  ];
+}
+
+-- none
+pub pushed-none : (u : Unrolling) (q : Waiting) → AreTasksOf u q → Pushed u [] q q
+pushed-none u q are = record { are_tasks = are; kept = λ t h. h; pushed = λ t h. absurd (not_in_nil t h) }
+
+-- one list after another
+pub pushed-then : (u : Unrolling) (xs ys : List Task) (a b c : Waiting) → Pushed u xs a b → Pushed u ys b c → Pushed u (xs ++ ys) a c
+pushed-then u xs ys a b c first second = record {
+  are_tasks = second.are_tasks;
+  kept = λ t h. second.kept t (first.kept t h);
+  pushed = λ t h. elim (Contains-append_cases xs ys t h) [
+    | inl here ↦ second.kept t (first.pushed t here)
+    | inr there ↦ second.pushed t there
+  ];
+}
+
+-- the same list by another name
+pub pushed-same : (u : Unrolling) (xs ys : List Task) (a b : Waiting) → xs ≡ ys → Pushed u xs a b → Pushed u ys a b
+pushed-same u xs ys a b e p = subst (λ zs. Pushed u zs a b) e p
+
+-- the tasks of a driven signal itself
+pub own-two : (u : Unrolling) (d : Driver) (s : Sig) (chunk : ℕ) → kind_of d ≡ Some Dff → 0 < chunk → own_tasks u d s chunk ≡ (task_at u s (chunk - 1) ∷ []) ++ task_at u s chunk ∷ []
+own-two u Input s chunk e h = cc
+own-two u (Driven kind pins) s chunk e h =
+    ap (λ k. (cond (is_flip_flop (Driven k pins) && ltb 0 chunk) (task_at u s (chunk - 1) ∷ []) []) ++ task_at u s chunk ∷ []) (some-kind kind Dff e)
+    ∙ ap (λ b. (cond b (task_at u s (chunk - 1) ∷ []) []) ++ task_at u s chunk ∷ []) (lt-ltb 0 chunk h)
+
+pub own-one : (u : Unrolling) (d : Driver) (kind : Kind) (s : Sig) (chunk : ℕ) → kind_of d ≡ Some kind → ((kind ≡ Dff) → 0 < chunk → ⊥) → own_tasks u d s chunk ≡ task_at u s chunk ∷ []
+own-one u Input kind s chunk e no_two = cc
+own-one u (Driven k pins) kind s chunk e no_two =
+    elim (cases_Bool (is_flip_flop (Driven k pins) && ltb 0 chunk)) [
+      | inr off ↦ ap (λ b. (cond b (task_at u s (chunk - 1) ∷ []) []) ++ task_at u s chunk ∷ []) off
+      | inl on ↦
+          let parts : (is_flip_flop (Driven k pins) ≡ true) × (ltb 0 chunk ≡ true) = and_parts (is_flip_flop (Driven k pins)) (ltb 0 chunk) on in
+          absurd (no_two (sym (some-kind k kind e) ∙ dff k pins parts.0) (ltb-true 0 chunk parts.1))
+    ]
+  where
+    dff : (k : Kind) (pins : List Sig) → is_flip_flop (Driven k pins) ≡ true → k ≡ Dff
+    dff Dff pins e = refl
+    dff And pins e = cc
+    dff Nand pins e = cc
+    dff Or pins e = cc
+    dff Nor pins e = cc
+    dff Xor pins e = cc
+    dff Xnor pins e = cc
+    dff Not pins e = cc
+    dff Buf pins e = cc
+
+pub own-none : (u : Unrolling) (d : Driver) (s : Sig) (chunk : ℕ) → kind_of d ≡ None → own_tasks u d s chunk ≡ []
+own-none u Input s chunk e = refl
+own-none u (Driven kind pins) s chunk e = cc
+
+-- the task of a driven signal in a chunk
+pub own-is : (u : Unrolling) (s : Sig) (chunk : ℕ) (kind : Kind) → s.0 < signals_in u → chunk < chunks_in u → kind_of (driver_at u.circuit.drivers s.0) ≡ Some kind → IsTaskAt u s chunk
+own-is u s chunk kind signal early e = record { signal = signal; early = early; driven = driven (driver_at u.circuit.drivers s.0) e }
+  where
+    driven : (d : Driver) → kind_of d ≡ Some kind → is_driven d ≡ true
+    driven Input e = cc
+    driven (Driven k pins) e = refl
+
+-- each reader's task in the chunk is one
+pub reader-is : (u : Unrolling) (s : Sig) (chunk : ℕ) (rs : List Sig) → rs ≡ other_readers u.circuit.drivers s → chunk < chunks_in u → (i : ℕ) (d : Sig) → i < length rs → IsTaskAt u (get_or rs i d) chunk
+reader-is u s chunk rs is early i d h =
+    let r : Sig = get_or rs i d in
+    let listed : Contains (other_readers u.circuit.drivers s) r = subst (λ xs. Contains xs r) is (Contains-get_or rs i d h) in
+    let reading : Contains (readers u.circuit.drivers s) r = filter-member (λ t. not (eqb t.0 s.0)) (readers u.circuit.drivers s) r listed in
+    record {
+      signal = reader-within u.circuit.drivers s rs is i d h;
+      early = early;
+      driven = driven (driver_at u.circuit.drivers r.0) (filter-passes (λ t. reads (driver_at u.circuit.drivers t.0) s) (signals_below (length u.circuit.drivers)) r reading);
+    }
+  where
+    driven : (d : Driver) → reads d s ≡ true → is_driven d ≡ true
+    driven Input e = cc
+    driven (Driven kind pins) e = refl
+
+-- one reader more
+pub readers-more : (u : Unrolling) (chunk : ℕ) (own : List Task) (rs : List Sig) (i : ℕ) (d : Sig) (a b c : Waiting) → i < length rs → Pushed u (own ++ map (λ r. task_at u r chunk) (take i rs)) a b
+    → Pushed u (task_at u (get_or rs i d) chunk ∷ []) b c → Pushed u (own ++ map (λ r. task_at u r chunk) (take (i + 1) rs)) a c
+readers-more u chunk own rs i d a b c h before more =
+    pushed-same u _ _ a c
+    (append_assoc own (map (λ r. task_at u r chunk) (take i rs)) (task_at u (get_or rs i d) chunk ∷ [])
+    ∙ ap (λ xs. own ++ xs) (sym (map-append (λ r. task_at u r chunk) (take i rs) (get_or rs i d ∷ [])) ∙ ap (map (λ r. task_at u r chunk)) (sym (take_more rs i d h))))
+    (pushed-then u (own ++ map (λ r. task_at u r chunk) (take i rs)) (task_at u (get_or rs i d) chunk ∷ []) a b c before more)
+
+-- all of them
+pub readers-all : (u : Unrolling) (s : Sig) (chunk : ℕ) (rs : List Sig) (i : ℕ) (a b : Waiting) → rs ≡ other_readers u.circuit.drivers s → length rs ≤ i
+    → Pushed u (own_tasks u (driver_at u.circuit.drivers s.0) s chunk ++ map (λ r. task_at u r chunk) (take i rs)) a b → Pushed u (adjacent_from u s chunk) a b
+readers-all u s chunk rs i a b is all p =
+    pushed-same u _ _ a b (ap (λ xs. own_tasks u (driver_at u.circuit.drivers s.0) s chunk ++ map (λ r. task_at u r chunk) xs) (take_all i rs all ∙ is)) p
+
+-- constant tasks are tasks
+pub constant-is : (u : Unrolling) → IsProblem u → (ts : List Task) → ts ≡ constant_tasks u → (i : ℕ) (d : Task) → i < length ts → IsTask u (get_or ts i d)
+constant-is u is ts same i d h =
+    let listed : Contains (constant_tasks u) (get_or ts i d) = subst (λ xs. Contains xs (get_or ts i d)) same (Contains-get_or ts i d h) in
+    (((force_from_nothing u is).1 (get_or ts i d)).0 listed).0
+
+pub task-is : (u : Unrolling) (t : Task) → IsProblem u → IsTask u t → (s : Sig) → s ≡ target_of u t → (chunk : ℕ) → chunk ≡ chunk_of u t → IsTaskAt u s chunk
+task-is u t is task s s_is chunk chunk_is =
+    subst (λ x. IsTaskAt u x chunk) (sym s_is) (subst (IsTaskAt u (target_of u t)) (sym chunk_is) (record {
+      signal = sig-within u (target_block t) (some_chunk u is) task.0;
+      early = chunk-within u (target_block t) (some_chunk u is);
+      driven = task.1;
+    }))
+
+pub constants-more : (u : Unrolling) (ts : List Task) (i : ℕ) (d : Task) (a b c : Waiting) → i < length ts → Pushed u (take i ts) a b
+    → (s : Sig) → s ≡ target_of u (get_or ts i d) → (chunk : ℕ) → chunk ≡ chunk_of u (get_or ts i d) → Pushed u (task_at u s chunk ∷ []) b c → Pushed u (take (i + 1) ts) a c
+constants-more u ts i d a b c h before s s_is chunk chunk_is more =
+    let one : task_at u s chunk ≡ get_or ts i d = ap (λ x. task_at u x chunk) s_is ∙ ap (task_at u (target_of u (get_or ts i d))) chunk_is ∙ task-itself u (get_or ts i d) in
+    pushed-same u _ _ a c (ap (λ t. take i ts ++ t ∷ []) one ∙ sym (take_more ts i d h)) (pushed-then u (take i ts) (task_at u s chunk ∷ []) a b c before more)

@@ -1,0 +1,240 @@
+-- The turn of a task, and turns one after another.
+use Rattle.std.proofs.Common.{ℕ, ◌≡◌, ◌<◌, ◌≤◌, ◌+◌, ◌*◌, ◌/◌, ◌%◌, ◌⊎◌, ◌&&◌, Bool, true, false, eqb, ltb, List, [], ◌∷◌, length, map, get_or, arith, inl, inr, refl, sym, ap, subst, ◌∙◌}
+use Rattle.std.specs.List.{Contains}
+use Rattle.std.proofs.lemmas.Bool.{cases_eq, cond-true, cond-false, eq-eqb, ne_eqb, and_parts, and_from, lt-ltb, ltb-true, true≢false}
+use Rattle.std.proofs.lemmas.List.{get_or_default, length-map}
+use Rattle.sr_model.specs.declared.cells.Sig.{Sig}
+use Rattle.sr_model.specs.declared.cells.Cell.{Cell}
+use Rattle.sr_model.specs.declared.cells.Lit.{Lit}
+use Rattle.sr_model.specs.Closure.{Closure, SameLits, IsClosed, lit}
+use Rattle.sr_model.proofs.ClosureLaws.{forced_between, closed_between, same_closure, has_base}
+use Rattle.sr_model.proofs.Members.{not_in_nil, Contains-cases}
+use Rattle.unroll.specs.declared.problem.Block.{Block}
+use Rattle.unroll.specs.declared.problem.Task.{Task}
+use Rattle.unroll.specs.declared.words.PinWord.{PinWord}
+use Rattle.unroll.specs.Bits.{is_set, word_for}
+use Rattle.unroll.specs.Problem.{Unrolling, unrolled, IsProblem, chunks_in, sig_at, chunk_at, block_of, bit_of, cell_of}
+use Rattle.unroll.specs.Tasks.{IsTask, IsCellOf, task_of, adjacent_tasks, task_at, target_of, chunk_of, blocks_of, blocks_from}
+use Rattle.unroll.proofs.BlockNumbers.{block-sig, block-chunk, cycle-chunk, task-itself}
+use Rattle.unroll.proofs.WordBits.{is_set_zero}
+use Rattle.unroll.proofs.TaskCells.{have_its_cells, each_in_one_task}
+use Rattle.gate_rules.specs.Forced.{ForcedIn, IsForcedExactly, bit_at_place, lit_at_place, view_has, words_of}
+use Rattle.gate_rules.proofs.NewLiterals.{forced-in_time}
+use Rattle.known_planes.specs.Planes.{PlaneSet, has, lits, words_at, no_bits, IsOf}
+use Rattle.plain_close.specs.declared.task_queues.InChunk.{InChunk}
+use Rattle.plain_close.specs.Queues.{Waiting, Waits}
+use Rattle.plain_close.specs.Turns.{IsTaskAt, AreTasksOf, TaskWaits, IsDone, IsSettled, Wakes, JoinsFirst, Turns, Between, Sees, block_in, has_bit, missing_of}
+use Rattle.plain_close.proofs.SameCells.{forced-on_cells, same-on_cells}
+
+-- what the words beside the blocks are, where each is that of its block
+pub words-listed : (blocks : List Block) (f : Block → PinWord) (b : Block) → Contains blocks b → words_of blocks (map f blocks) b ≡ f b
+words-listed [] f b h = absurd (not_in_nil b h)
+words-listed (c ∷ blocks) f b h =
+    elim (cases_eq c.0 b.0) [
+      | inl same ↦ cond-true (eqb c.0 b.0) (f c) (words_of blocks (map f blocks) b) (eq-eqb c.0 b.0 same) ∙ ap f (ap (λ n. record { 0 = n }) same)
+      | inr other ↦
+          cond-false (eqb c.0 b.0) (f c) (words_of blocks (map f blocks) b) (ne_eqb c.0 b.0 other)
+          ∙ elim (Contains-cases c blocks b h) [
+            | inl e ↦ absurd (other (ap (λ (x : Block). x.0) e))
+            | inr later ↦ words-listed blocks f b later
+          ]
+    ]
+
+pub words-or-none : (blocks : List Block) (f : Block → PinWord) (b : Block) → (words_of blocks (map f blocks) b ≡ f b) ⊎ (words_of blocks (map f blocks) b ≡ no_bits)
+words-or-none [] f b = inr refl
+words-or-none (c ∷ blocks) f b =
+    elim (cases_eq c.0 b.0) [
+      | inl same ↦ inl (cond-true (eqb c.0 b.0) (f c) (words_of blocks (map f blocks) b) (eq-eqb c.0 b.0 same) ∙ ap f (ap (λ n. record { 0 = n }) same))
+      | inr other ↦ elim (words-or-none blocks f b) [
+        | inl e ↦ inl (cond-false (eqb c.0 b.0) (f c) (words_of blocks (map f blocks) b) (ne_eqb c.0 b.0 other) ∙ e)
+        | inr e ↦ inr (cond-false (eqb c.0 b.0) (f c) (words_of blocks (map f blocks) b) (ne_eqb c.0 b.0 other) ∙ e)
+      ]
+    ]
+
+-- a cell is that of its bit in its block
+pub cell-itself : (u : Unrolling) (c : Cell) → c.cycle < u.cycles → cell_of u (block_of u c) (bit_of c) ≡ c
+cell-itself u c early =
+    let chunk : chunk_at u (block_of u c) ≡ c.cycle / 64 = block-chunk u c.sig (c.cycle / 64) (cycle-chunk u c.cycle early) in
+    let sig : sig_at u (block_of u c) ≡ c.sig = block-sig u c.sig (c.cycle / 64) (cycle-chunk u c.cycle early) in
+    ap (λ n. record { cycle = 64 * n + c.cycle % 64; sig = sig_at u (block_of u c) }) chunk ∙ ap (λ n. record { cycle = n; sig = sig_at u (block_of u c) }) (whole c.cycle)
+    ∙ ap (λ s. record { cycle = c.cycle; sig = s }) sig
+  where
+    whole : (n : ℕ) → 64 * (n / 64) + n % 64 ≡ n
+    whole n = omega arith
+
+-- a literal of planes is a bit of its block
+pub has-bit_of : (u : Unrolling) (planes : PlaneSet) (l : Lit) → has u planes l ≡ true → (l.cell.cycle < u.cycles) × (has_bit planes (block_of u l.cell) l.bit (bit_of l.cell) ≡ true)
+has-bit_of u planes l h =
+    let parts : (ltb l.cell.cycle u.cycles ≡ true) × (has_bit planes (block_of u l.cell) l.bit (bit_of l.cell) ≡ true) =
+    and_parts (ltb l.cell.cycle u.cycles) (has_bit planes (block_of u l.cell) l.bit (bit_of l.cell)) h in
+    (ltb-true l.cell.cycle u.cycles parts.0, parts.1)
+
+pub bit-has : (u : Unrolling) (planes : PlaneSet) (l : Lit) → l.cell.cycle < u.cycles → has_bit planes (block_of u l.cell) l.bit (bit_of l.cell) ≡ true → has u planes l ≡ true
+bit-has u planes l early h = and_from (ltb l.cell.cycle u.cycles) (has_bit planes (block_of u l.cell) l.bit (bit_of l.cell)) (lt-ltb l.cell.cycle u.cycles early) h
+
+-- and what the bits keep the literals keep
+pub has-kept : (u : Unrolling) (old new : PlaneSet) → ((b : Block) (bit : Bool) (i : ℕ) → has_bit old b bit i ≡ true → has_bit new b bit i ≡ true)
+    → (l : Lit) → has u old l ≡ true → has u new l ≡ true
+has-kept u old new bits l h =
+    let parts : (l.cell.cycle < u.cycles) × (has_bit old (block_of u l.cell) l.bit (bit_of l.cell) ≡ true) = has-bit_of u old l h in
+    bit-has u new l parts.0 (bits (block_of u l.cell) l.bit (bit_of l.cell) parts.1)
+
+module _ (u : Unrolling) (is : IsProblem u) (t : Task) (old new : PlaneSet) (blocks : List Block) (view out : List PinWord)
+    (blocks_is : blocks ≡ blocks_of u t) (view_is : view ≡ map (words_at old) blocks) (exact : IsForcedExactly u t blocks view out) (joins : JoinsFirst blocks out (length blocks) old new) where
+  listed : (c : Cell) → IsCellOf u t c → Contains blocks (block_of u c)
+  listed c of = subst (λ bs. Contains bs (block_of u c)) (sym blocks_is) (have_its_cells u t c is of)
+
+  -- on the task's cells the view has what the planes have
+  in-view : (c : Cell) (bit : Bool) → IsCellOf u t c → has u old (lit c bit) ≡ true → view_has u blocks view (lit c bit) ≡ true
+  in-view c bit of h =
+      ap (λ ws. ltb c.cycle u.cycles && is_set (word_for bit (words_of blocks ws (block_of u c))) (bit_of c)) view_is
+      ∙ ap (λ w. ltb c.cycle u.cycles && is_set (word_for bit w) (bit_of c)) (words-listed blocks (words_at old) (block_of u c) (listed c of)) ∙ h
+
+  -- and it has nothing else
+  from-view : (l : Lit) → view_has u blocks view l ≡ true → has u old l ≡ true
+  from-view l h =
+      let seen : (ltb l.cell.cycle u.cycles && is_set (word_for l.bit (words_of blocks (map (words_at old) blocks) (block_of u l.cell))) (bit_of l.cell)) ≡ true =
+      ap (λ ws. ltb l.cell.cycle u.cycles && is_set (word_for l.bit (words_of blocks ws (block_of u l.cell))) (bit_of l.cell)) (sym view_is) ∙ h in
+      elim (words-or-none blocks (words_at old) (block_of u l.cell)) [
+        | inl e ↦ ap (λ w. ltb l.cell.cycle u.cycles && is_set (word_for l.bit w) (bit_of l.cell)) (sym e) ∙ seen
+        | inr e ↦
+            absurd (true≢false (sym (and_parts (ltb l.cell.cycle u.cycles) (is_set (word_for l.bit (words_of blocks (map (words_at old) blocks) (block_of u l.cell))) (bit_of l.cell)) seen).1
+            ∙ ap (λ w. is_set (word_for l.bit w) (bit_of l.cell)) e ∙ unset l.bit))
+      ]
+    where
+      unset : (bit : Bool) → is_set (word_for bit no_bits) (bit_of l.cell) ≡ false
+      unset true = is_set_zero (bit_of l.cell)
+      unset false = is_set_zero (bit_of l.cell)
+
+  -- the literal of a place
+  at-place : (l : Lit) (place : ℕ) → l.cell.cycle < u.cycles → get_or blocks place (record { 0 = 0 }) ≡ block_of u l.cell → lit_at_place u blocks place l.bit (bit_of l.cell) ≡ l
+  at-place l place early e =
+      ap (λ b. lit (cell_of u b (bit_of l.cell)) l.bit) e ∙ ap (λ c. lit c l.bit) (cell-itself u l.cell early)
+
+  lane : (l : Lit) → bit_of l.cell < 64
+  lane l = below l.cell.cycle
+    where
+      below : (n : ℕ) → n % 64 < 64
+      below n = omega arith
+
+  pub turns : Turns u t old new
+  turns = record {
+    done = λ l f.
+        let early : l.cell.cycle < u.cycles = forced-in_time u t (has u old) l f in
+        let seen : ForcedIn u t (view_has u blocks view) l = forced-on_cells u t (has u old) (view_has u blocks view) in-view l f in
+        let of : IsCellOf u t l.cell = record { place = f.place; belongs = f.belongs; instance = f.forces.instance; stands = f.forces.stands; has_cell = f.forces.forces.on_cells } in
+        let there : Contains blocks (block_of u l.cell) = listed l.cell of in
+        let at : get_or blocks there.0 (record { 0 = 0 }) ≡ block_of u l.cell = get_or_default blocks there.0 (record { 0 = 0 }) (block_of u l.cell) there.1 ∙ there.2 in
+        let set : bit_at_place out there.0 l.bit (bit_of l.cell) ≡ true =
+        (exact there.0 (bit_of l.cell) l.bit there.1 (lane l)).1 (subst (ForcedIn u t (view_has u blocks view)) (sym (at-place l there.0 early at)) seen) in
+        bit-has u new l early (joins.joined (block_of u l.cell) l.bit (bit_of l.cell) (record { place = there.0; first = there.1; block = at; set = set }));
+    only = λ l h.
+        let parts : (l.cell.cycle < u.cycles) × (has_bit new (block_of u l.cell) l.bit (bit_of l.cell) ≡ true) = has-bit_of u new l h in
+        elim (joins.only (block_of u l.cell) l.bit (bit_of l.cell) parts.1) [
+          | inl before ↦ inl (bit-has u old l parts.0 before)
+          | inr among ↦ inr (forced-on_cells u t (view_has u blocks view) (has u old) (λ c bit of. from-view (lit c bit)) l
+              (subst (ForcedIn u t (view_has u blocks view)) (at-place l among.place parts.0 among.block)
+              ((exact among.place (bit_of l.cell) l.bit among.first (lane l)).0 among.set)))
+        ];
+  }
+
+-- the tasks that are left after one was taken
+pub popped-tasks : (u : Unrolling) (q popped : Waiting) → AreTasksOf u q → popped.signals ≡ q.signals → length popped.rows ≡ length q.rows → ((s : Sig) (c : ℕ) → Waits popped s c → Waits q s c) → AreTasksOf u popped
+popped-tasks u q popped are signals chunks only = record { signals = signals ∙ are.signals; chunks = chunks ∙ are.chunks; tasks = λ s c h. are.tasks s c (only s c h) }
+
+-- nothing was done yet
+pub between-none : (u : Unrolling) (planes : PlaneSet) (q : Waiting) → IsOf u planes → AreTasksOf u q → IsSettled u planes q → Between u planes planes q
+between-none u planes q of are settled = record {
+  of = of;
+  are_tasks = are;
+  settled = settled;
+  kept = λ l h. h;
+  in_closure = has_base (unrolled u) (lits u planes);
+  no_more = omega arith;
+}
+
+-- a task was taken, and had its turn
+pub between-turn : (u : Unrolling) (x y z : PlaneSet) (q popped after : Waiting) (s : Sig) (chunk : ℕ) → Between u x y q → IsTaskAt u s chunk
+    → ((r : Sig) (c : ℕ) → Waits q r c → Waits popped r c ⊎ ((r ≡ s) × (c ≡ chunk))) → Wakes u y z popped after → missing_of z ≤ missing_of y → Turns u (task_at u s chunk) y z → Between u x z after
+between-turn u x y z q popped after s chunk before task kept wakes no_more turn = record {
+  of = wakes.of;
+  are_tasks = wakes.are_tasks;
+  settled = λ t is. settled t is;
+  kept = λ l h. has-kept u y z wakes.bits l (before.kept l h);
+  in_closure = λ l h. elim (turn.only l h) [
+    | inl old ↦ before.in_closure l old
+    | inr f ↦ forced_between (unrolled u) (lits u x) (lits u y) before.kept before.in_closure l (f.place, f.forces)
+  ];
+  no_more = omega (arith, no_more, before.no_more);
+}
+  where
+    -- where no block of a task changed, it is done if what it forced before is there
+    done : (t : Task) → ((b : Block) → Contains (adjacent_tasks u b) t → words_at z b ≡ words_at y b) → ((l : Lit) → ForcedIn u t (has u y) l → has u z l ≡ true) → IsDone u t (has u z)
+    done t same there l f = there l (forced-on_cells u t (has u z) (has u y) (λ c bit of h. sym (same-on_cells u t y z same c bit of) ∙ h) l f)
+
+    settled : (t : Task) → IsTask u t → TaskWaits u after t ⊎ IsDone u t (has u z)
+    settled t is =
+        elim (wakes.woken t) [
+          | inl waits ↦ inl waits
+          | inr same ↦ elim (before.settled t is) [
+            | inr was_done ↦ inr (done t same (λ l f. has-kept u y z wakes.bits l (was_done l f)))
+            | inl waited ↦ elim (kept (target_of u t) (chunk_of u t) waited) [
+              | inl still ↦ inl (wakes.kept t still)
+              | inr taken ↦
+                  let one : task_at u s chunk ≡ t = ap (λ r. task_at u r chunk) (sym taken.0) ∙ ap (task_at u (target_of u t)) (sym taken.1) ∙ task-itself u t in
+                  inr (done t same (λ l f. turn.done l (subst (λ (k : Task). ForcedIn u k (has u y) l) (sym one) f)))
+            ]
+          ]
+        ]
+
+-- some turns after others
+pub between-then : (u : Unrolling) (x y z : PlaneSet) (q r : Waiting) → Between u x y q → Between u y z r → Between u x z r
+between-then u x y z q r first second = record {
+  of = second.of;
+  are_tasks = second.are_tasks;
+  settled = second.settled;
+  kept = λ l h. second.kept l (first.kept l h);
+  in_closure = λ l h. (same_closure (unrolled u) (lits u x) (lits u y) first.kept first.in_closure).0 l (second.in_closure l h);
+  no_more = omega (arith, first.no_more, second.no_more);
+}
+
+-- where no task waits, nothing more is forced
+pub all-done : (u : Unrolling) (planes : PlaneSet) (q : Waiting) → IsSettled u planes q → ((s : Sig) (c : ℕ) → Waits q s c → ⊥) → IsClosed (unrolled u) (lits u planes)
+all-done u planes q settled none l (p, f) =
+    let one = each_in_one_task u p f.instance f.stands in
+    elim (settled (task_of u p) one.0) [
+      | inl waits ↦ absurd (none (target_of u (task_of u p)) (chunk_of u (task_of u p)) waits)
+      | inr done ↦ done l (record { place = p; belongs = one.1; forces = f })
+    ]
+
+pub closure-is : (u : Unrolling) (x y : PlaneSet) (q : Waiting) → Between u x y q → IsClosed (unrolled u) (lits u y) → SameLits (lits u y) (Closure (unrolled u) (lits u x))
+closure-is u x y q between closed = closed_between (unrolled u) (lits u x) (lits u y) between.kept between.in_closure closed
+
+-- none waits: the tasks that are left are none
+pub between-end : (u : Unrolling) (x y : PlaneSet) (q popped : Waiting) → Between u x y q → ((s : Sig) (c : ℕ) → Waits q s c → ⊥) → AreTasksOf u popped → Between u x y popped
+between-end u x y q popped before none are = record {
+  of = before.of;
+  are_tasks = are;
+  settled = λ t is. elim (before.settled t is) [
+    | inl waits ↦ absurd (none (target_of u t) (chunk_of u t) waits)
+    | inr done ↦ inr done
+  ];
+  kept = before.kept;
+  in_closure = before.in_closure;
+  no_more = before.no_more;
+}
+
+-- the blocks of a task by its signal and chunk
+pub blocks-at : (u : Unrolling) (s : Sig) (chunk : ℕ) → chunk < chunks_in u → blocks_from u s chunk ≡ blocks_of u (task_at u s chunk)
+blocks-at u s chunk early =
+    sym (ap (λ x. blocks_from u x (chunk_of u (task_at u s chunk))) (block-sig u s chunk early) ∙ ap (blocks_from u s) (block-chunk u s chunk early))
+
+-- the turn, from what its parts say
+pub turn-is : (u : Unrolling) → IsProblem u → (s : Sig) (chunk : ℕ) → chunk < chunks_in u → (old new : PlaneSet) (blocks : List Block) (places : List InChunk) (view before out : List PinWord)
+    → blocks ≡ blocks_from u s chunk → Sees u old (blocks_from u s chunk) places view before → IsForcedExactly u (task_at u s chunk) blocks view out
+    → JoinsFirst (map (block_in u) places) out (length places) old new → Turns u (task_at u s chunk) old new
+turn-is u is s chunk early old new blocks places view before out blocks_is sees exact joins =
+    let same : map (block_in u) places ≡ blocks = sees.places_are ∙ sym blocks_is in
+    let size : length places ≡ length blocks = sym (length-map places (block_in u)) ∙ ap length same in
+    turns u is (task_at u s chunk) old new blocks view out (blocks_is ∙ blocks-at u s chunk early) (sees.view_is ∙ ap (map (words_at old)) (sym blocks_is)) exact
+    (subst (λ n. JoinsFirst blocks out n old new) size (subst (λ bs. JoinsFirst bs out (length places) old new) same joins))

@@ -1,0 +1,38 @@
+use Rattle.std.proofs.Common.{◌⊎◌, ◌≡◌, sym, subst}
+use Rattle.std.specs.VecDeque.{deque_items}
+use Rattle.plain_close.specs.Queues.{Waiting, Waits}
+use Rattle.plain_close.proofs.WaitingRows.{same-invariant, push-invariant, pushed-waits, pushed-kept, pushed-only, queue-within, signal-within, place-is}
+use Rattle.plain_close.proofs.task_queues.TaskQueues.push.Goals as goal
+
+pub invariant_of-self : goal.invariant_of-self
+invariant_of-self c =
+    same-invariant deque_items c.self.inside.queues.items c.args.chunk c.index_mut.result.now c.push_back.new.self
+    (queue-within deque_items c.self.inside.queues.items c.self.inside.signals c.args.self.now c.self.view_is c.args.chunk c.requires.chunk)
+    c.index_mut.ensures.value c.self.inside.signals c.self.inside.flags.items c.self.inside.current c.self.invariant c.in-Err.ensures.items
+
+pub invariant_of-self-2 : goal.invariant_of-self-2
+invariant_of-self-2 c =
+    push-invariant deque_items c.self.inside.queues.items c.args.chunk c.index_mut.result.now c.push_back.new.self
+    (queue-within deque_items c.self.inside.queues.items c.self.inside.signals c.args.self.now c.self.view_is c.args.chunk c.requires.chunk)
+    c.index_mut.ensures.value c.self.inside.signals c.self.inside.flags.items c.self.inside.current c.self.invariant c.args.target c.place-place.result c.in-Ok.ensures.items
+    (signal-within deque_items c.self.inside.queues.items c.self.inside.signals c.args.self.now c.self.view_is c.args.target c.requires.target)
+    (place-is deque_items c.self.inside.queues.items c.self.inside.signals c.args.self.now c.self.view_is c.place-place.result c.args.chunk c.args.target c.place-place.ensures)
+
+pub returns-clause-waits : goal.returns-clause-waits
+returns-clause-waits c =
+    pushed-waits deque_items c.self.inside.queues.items c.args.chunk c.index_mut.result.now c.push_back.new.self
+    (queue-within deque_items c.self.inside.queues.items c.self.inside.signals c.args.self.now c.self.view_is c.args.chunk c.requires.chunk)
+    c.index_mut.ensures.value c.args.target c.in-Ok.ensures.items
+
+pub returns-clause-kept : goal.returns-clause-kept
+returns-clause-kept c s d h =
+    pushed-kept deque_items c.self.inside.queues.items c.args.chunk c.index_mut.result.now c.push_back.new.self
+    (queue-within deque_items c.self.inside.queues.items c.self.inside.signals c.args.self.now c.self.view_is c.args.chunk c.requires.chunk)
+    c.index_mut.ensures.value c.args.target c.in-Ok.ensures.items s d (subst (λ (q : Waiting). Waits q s d) (sym c.self.view_is) h)
+
+pub returns-clause-only : goal.returns-clause-only
+returns-clause-only c s d h =
+    subst (λ (q : Waiting). Waits q s d ⊎ ((s ≡ c.args.target) × (d ≡ c.args.chunk))) c.self.view_is
+    (pushed-only deque_items c.self.inside.queues.items c.args.chunk c.index_mut.result.now c.push_back.new.self
+    (queue-within deque_items c.self.inside.queues.items c.self.inside.signals c.args.self.now c.self.view_is c.args.chunk c.requires.chunk)
+    c.index_mut.ensures.value c.args.target c.in-Ok.ensures.items s d h)

@@ -1,0 +1,124 @@
+-- What turns of tasks make of planes and of the tasks that wait.
+use Rattle.std.specs.Prelude.{ℕ, ◌≡◌, ◌+◌, ◌-◌, ◌^◌, ◌<◌, ◌≤◌, ◌⊎◌, Bool, true, IsTrue, IsFalse, List, length, map, slice_index_or}
+use Rattle.std.specs.List.{All, Contains, sum_by}
+use Rattle.sr_model.specs.declared.cells.Sig.{Sig}
+use Rattle.sr_model.specs.declared.cells.Lit.{Lit}
+use Rattle.sr_model.specs.Closure.{Closure, IsWithin}
+use Rattle.netlist.specs.Wiring.{driver_at, is_driven}
+use Rattle.unroll.specs.declared.problem.Block.{Block}
+use Rattle.unroll.specs.declared.problem.Task.{Task}
+use Rattle.unroll.specs.declared.words.PinWord.{PinWord}
+use Rattle.unroll.specs.Bits.{is_set, word_for}
+use Rattle.unroll.specs.Problem.{Unrolling, unrolled, signals_in, chunks_in, block_at}
+use Rattle.unroll.specs.Tasks.{IsTask, target_of, chunk_of, adjacent_tasks}
+use Rattle.gate_rules.specs.Forced.{ForcedIn, bit_at_place}
+use Rattle.known_planes.specs.Planes.{PlaneSet, has, lits, words_at, IsOf}
+use Rattle.plain_close.specs.declared.task_queues.InChunk.{InChunk}
+use Rattle.plain_close.specs.Queues.{Waiting, Waits}
+
+-- a gate or flip-flop drives the signal, and there is the chunk
+pub record IsTaskAt (u : Unrolling) (target : Sig) (chunk : ℕ) : Type 0 where
+  pub signal : target.0 < signals_in u
+  pub early : chunk < chunks_in u
+  pub driven : is_driven (driver_at u.circuit.drivers target.0) ≡ true
+
+-- the queues are over the problem's signals and chunks, and what waits there are tasks
+pub record AreTasksOf (u : Unrolling) (q : Waiting) : Type 0 where
+  pub signals : q.signals ≡ signals_in u
+  pub chunks : length q.rows ≡ chunks_in u
+  pub tasks : (s : Sig) (chunk : ℕ) → Waits q s chunk → IsTaskAt u s chunk
+
+abbrev pub TaskWaits : Unrolling → Waiting → Task → Type 0
+TaskWaits u q t = Waits q (target_of u t) (chunk_of u t)
+
+-- what the task forces from these literals is among them
+abbrev pub IsDone : Unrolling → Task → (Lit → Bool) → Type 0
+IsDone u t known = (l : Lit) → ForcedIn u t known l → known l ≡ true
+
+-- each task waits or is done
+abbrev pub IsSettled : Unrolling → PlaneSet → Waiting → Type 0
+IsSettled u planes q = (t : Task) → IsTask u t → TaskWaits u q t ⊎ IsDone u t (has u planes)
+
+-- the tasks of a list wait, too
+pub record Pushed (u : Unrolling) (tasks : List Task) (before after : Waiting) : Type 0 where
+  pub are_tasks : AreTasksOf u after
+  pub kept : (t : Task) → TaskWaits u before t → TaskWaits u after t
+  pub pushed : (t : Task) → Contains tasks t → TaskWaits u after t
+
+-- whether the planes have a bit of a block
+abbrev pub has_bit : PlaneSet → Block → Bool → ℕ → Bool
+has_bit planes b bit i = is_set (word_for bit (words_at planes b)) i
+
+-- how far all words are from being full, by their numbers
+abbrev pub missing_of : PlaneSet → ℕ
+missing_of planes = sum_by (λ w. 2 ^ 64 - w.zero + (2 ^ 64 - w.one)) planes.words
+
+-- nothing is lost, and each task that is in a block whose words changed waits
+pub record Wakes (u : Unrolling) (old new : PlaneSet) (before after : Waiting) : Type 0 where
+  pub of : IsOf u new
+  pub are_tasks : AreTasksOf u after
+  pub bits : (b : Block) (bit : Bool) (i : ℕ) → has_bit old b bit i ≡ true → has_bit new b bit i ≡ true
+  pub kept : (t : Task) → TaskWaits u before t → TaskWaits u after t
+  pub woken : (t : Task) → TaskWaits u after t ⊎ ((b : Block) → Contains (adjacent_tasks u b) t → words_at new b ≡ words_at old b)
+
+-- nothing changed, or the words are nearer to being full
+pub record Falls (added : Bool) (old new : PlaneSet) (before after : Waiting) : Type 0 where
+  pub no_more : missing_of new ≤ missing_of old
+  pub fewer : IsTrue added → missing_of new < missing_of old
+  pub same : IsFalse added → (new ≡ old) × (after ≡ before)
+
+-- the bits of the words are in the block, and no others are new
+pub record Joins (b : Block) (w : PinWord) (old new : PlaneSet) : Type 0 where
+  pub joined : (bit : Bool) (i : ℕ) → is_set (word_for bit w) i ≡ true → has_bit new b bit i ≡ true
+  pub only : (a : Block) (bit : Bool) (i : ℕ) → has_bit new a bit i ≡ true → (has_bit old a bit i ≡ true) ⊎ ((a ≡ b) × (is_set (word_for bit w) i ≡ true))
+
+-- a bit of the words that stand beside one of the first n blocks
+pub record IsAmong (blocks : List Block) (words : List PinWord) (n : ℕ) (b : Block) (bit : Bool) (i : ℕ) : Type 0 where
+  pub place : ℕ
+  pub first : place < n
+  pub block : slice_index_or blocks place (record { 0 = 0 }) ≡ b
+  pub set : bit_at_place words place bit i ≡ true
+
+-- those are in their blocks, and no others are new
+pub record JoinsFirst (blocks : List Block) (words : List PinWord) (n : ℕ) (old new : PlaneSet) : Type 0 where
+  pub joined : (b : Block) (bit : Bool) (i : ℕ) → IsAmong blocks words n b bit i → has_bit new b bit i ≡ true
+  pub only : (b : Block) (bit : Bool) (i : ℕ) → has_bit new b bit i ≡ true → (has_bit old b bit i ≡ true) ⊎ IsAmong blocks words n b bit i
+
+-- the block of a signal in a chunk
+abbrev pub block_in : Unrolling → InChunk → Block
+block_in u at = block_at u at.sig at.chunk
+
+-- it is there
+abbrev pub IsInside : Unrolling → InChunk → Type 0
+IsInside u at = (at.sig.0 < signals_in u) × (at.chunk < chunks_in u)
+
+-- what a turn has of its task's blocks: where they lie, their words, and room for what is forced
+pub record Sees (u : Unrolling) (planes : PlaneSet) (blocks : List Block) (places : List InChunk) (view out : List PinWord) : Type 0 where
+  pub inside : All (IsInside u) places
+  pub places_are : map (block_in u) places ≡ blocks
+  pub view_is : view ≡ map (words_at planes) blocks
+  pub out_size : length out ≡ length blocks
+
+-- a turn of a task: it is done as far as the old literals go, and adds nothing else
+pub record Turns (u : Unrolling) (t : Task) (old new : PlaneSet) : Type 0 where
+  pub done : (l : Lit) → ForcedIn u t (has u old) l → has u new l ≡ true
+  pub only : (l : Lit) → has u new l ≡ true → (has u old l ≡ true) ⊎ ForcedIn u t (has u old) l
+
+-- after some turns: nothing is lost, and all is in the closure
+pub record Between (u : Unrolling) (old new : PlaneSet) (after : Waiting) : Type 0 where
+  pub of : IsOf u new
+  pub are_tasks : AreTasksOf u after
+  pub settled : IsSettled u new after
+  pub kept : IsWithin (lits u old) (lits u new)
+  pub in_closure : IsWithin (lits u new) (Closure (unrolled u) (lits u old))
+  pub no_more : missing_of new ≤ missing_of old
+
+-- the other planes' bits of the first signals in a chunk are there, and no others are new than theirs
+pub record AddsRow (u : Unrolling) (other : PlaneSet) (chunk signals : ℕ) (old new : PlaneSet) : Type 0 where
+  pub joined : (s : Sig) (bit : Bool) (i : ℕ) → s.0 < signals → has_bit other (block_at u s chunk) bit i ≡ true → has_bit new (block_at u s chunk) bit i ≡ true
+  pub only : (b : Block) (bit : Bool) (i : ℕ) → has_bit new b bit i ≡ true → (has_bit old b bit i ≡ true) ⊎ (has_bit other b bit i ≡ true)
+
+-- and so in the first chunks
+pub record Adds (u : Unrolling) (other : PlaneSet) (chunks : ℕ) (old new : PlaneSet) : Type 0 where
+  pub joined : (s : Sig) (chunk : ℕ) (bit : Bool) (i : ℕ) → s.0 < signals_in u → chunk < chunks → has_bit other (block_at u s chunk) bit i ≡ true → has_bit new (block_at u s chunk) bit i ≡ true
+  pub only : (b : Block) (bit : Bool) (i : ℕ) → has_bit new b bit i ≡ true → (has_bit old b bit i ≡ true) ⊎ (has_bit other b bit i ≡ true)

@@ -1,0 +1,302 @@
+//! Turns of tasks: what a task forces is added, and the tasks about it wait again.
+ghost use Rattle.std.specs.Prelude.{◌≡◌, ◌+◌, ◌^◌, ◌<◌, ◌≤◌, ◌++◌, ◌∷◌, [], length, map, IfOk, OnOk, IsFalse, IsTrue, All, List};
+ghost use Rattle.sr_model.specs.Closure.{Closure, SameLits, IsClosed};
+ghost use Rattle.netlist.specs.Wiring.{driver_at};
+ghost use Rattle.unroll.specs.declared.problem.Block.{Block as AnyBlock};
+ghost use Rattle.unroll.specs.Problem.{IsProblem, unrolled, signals_in, chunks_in, block_at};
+ghost use Rattle.unroll.specs.Tasks.{task_at, adjacent_from, own_tasks, blocks_from, blocks_for, goes_on_from};
+ghost use Rattle.gate_rules.specs.Forced.{HasNoLaterBit};
+ghost use Rattle.known_planes.specs.Planes.{IsOf, lits, joined, HasNoFurtherBit};
+ghost use Rattle.plain_close.specs.Turns.{IsTaskAt, AreTasksOf, IsSettled, IsInside, Pushed, Wakes, Falls, Joins, JoinsFirst, Sees, Turns, Between, block_in, missing_of};
+
+use crate::task_queues::{InChunk, TaskQueues};
+use gate_rules::forced_in_chunk;
+use known_planes::Planes;
+use sr_model::{Kind, NoMemory, Sequence, Sig};
+use std::alloc::Global;
+use unroll::{Blocks, PinWord, PinWords, Problem};
+
+/// What a turn works on, with room for the blocks of any task: where they lie, their words, and what is forced there.
+#[derive(Drop)]
+pub struct Buffers {
+    blocks: Blocks,
+    places: Sequence<InChunk>,
+    view: PinWords,
+    out: PinWords,
+}
+
+impl Buffers {
+    /// Room for the 1,025 blocks that a task has at most.
+    pub fn new(alloc: Global) -> Result<Buffers, NoMemory>
+        ensures { IfOk result (λ buffers. 1025 ≤ buffers.blocks.room) }
+    {
+        Ok(Buffers {
+            blocks: Blocks::with_room(alloc, 1025)?,
+            places: Sequence::with_room(alloc, 1025)?,
+            view: PinWords::with_room(alloc, 1025)?,
+            out: PinWords::with_room(alloc, 1025)?,
+        })
+    }
+}
+
+/// Lets turns follow until no task waits.
+pub fn turn_all(
+    p: &Problem,
+    planes: &mut Planes,
+    queues: &mut TaskQueues,
+    buffers: &mut Buffers,
+) -> Result<(), NoMemory>
+    requires of { IsOf p.now planes.old }
+    requires are_tasks { AreTasksOf p.now queues.old }
+    requires settled { IsSettled p.now planes.old queues.old }
+    requires room { 1025 ≤ buffers.old.blocks.room }
+    ensures of { OnOk result (IsOf p.now planes.new) }
+    ensures closure { OnOk result (SameLits (lits p.now planes.new) (Closure (unrolled p.now) (lits p.now planes.old))) }
+{
+    while turn_to_next(p, planes, queues, buffers)? {}
+    Ok(())
+}
+
+/// Takes turns until one adds something, and answers whether one did: if not, no task waits.
+fn turn_to_next(
+    p: &Problem,
+    planes: &mut Planes,
+    queues: &mut TaskQueues,
+    buffers: &mut Buffers,
+) -> Result<bool, NoMemory>
+    requires of { IsOf p.now planes.old }
+    requires are_tasks { AreTasksOf p.now queues.old }
+    requires settled { IsSettled p.now planes.old queues.old }
+    requires room { 1025 ≤ buffers.old.blocks.room }
+    ensures room { buffers.old.blocks.room ≤ buffers.new.blocks.room }
+    ensures between { OnOk result (Between p.now planes.old planes.new queues.new) }
+    ensures fewer { IfOk result (λ added. IsTrue added → missing_of planes.new < missing_of planes.old) }
+    ensures closed { IfOk result (λ added. IsFalse added → IsClosed (unrolled p.now) (lits p.now planes.new)) }
+{
+    while let Some(task) = queues.pop() {
+        if turn(p, task, planes, queues, buffers)? {
+            return Ok(true);
+        }
+    }
+    Ok(false)
+}
+
+/// The turn of a task, and whether it added something.
+fn turn(
+    p: &Problem,
+    task: InChunk,
+    planes: &mut Planes,
+    queues: &mut TaskQueues,
+    buffers: &mut Buffers,
+) -> Result<bool, NoMemory>
+    requires of { IsOf p.now planes.old }
+    requires are_tasks { AreTasksOf p.now queues.old }
+    requires task { IsTaskAt p.now task.sig task.chunk }
+    requires room { 1025 ≤ buffers.old.blocks.room }
+    ensures room { buffers.old.blocks.room ≤ buffers.new.blocks.room }
+    ensures wakes { OnOk result (Wakes p.now planes.old planes.new queues.old queues.new) }
+    ensures falls { IfOk result (λ added. Falls added planes.old planes.new queues.old queues.new) }
+    ensures turns { OnOk result (Turns p.now (task_at p.now task.sig task.chunk) planes.old planes.new) }
+{
+    see(p, task, planes, buffers)?;
+    forced_in_chunk(
+        p,
+        task.sig,
+        task.chunk,
+        &buffers.blocks,
+        &buffers.view,
+        &mut buffers.out,
+    );
+    let added = join_all(p, planes, queues, &buffers.places, &buffers.out)?;
+    Ok(added)
+}
+
+/// Puts the blocks of a task, and their words, into the buffers.
+fn see(p: &Problem, task: InChunk, planes: &Planes, buffers: &mut Buffers) -> Result<(), NoMemory>
+    requires of { IsOf p.now planes.now }
+    requires signal { task.sig.0 < signals_in p.now }
+    requires chunk { task.chunk < chunks_in p.now }
+    requires room { 1025 ≤ buffers.old.blocks.room }
+    ensures room { buffers.old.blocks.room ≤ buffers.new.blocks.room }
+    ensures problem { OnOk result (IsProblem p.now) }
+    ensures blocks { OnOk result (buffers.new.blocks.items ≡ blocks_from p.now task.sig task.chunk) }
+    ensures sees { OnOk result (Sees p.now planes.now (blocks_from p.now task.sig task.chunk) buffers.new.places.items buffers.new.view.items buffers.new.out.items) }
+{
+    p.blocks_in_chunk(task.sig, task.chunk, &mut buffers.blocks);
+    buffers.places.clear();
+    buffers.view.clear();
+    buffers.out.clear();
+    for sig in p.net().signals_of(task.sig) {
+        see_signal(p, task, *sig, planes, buffers)?;
+    }
+    Ok(())
+}
+
+/// Adds the blocks of one of the task's signals.
+fn see_signal(
+    p: &Problem,
+    task: InChunk,
+    sig: Sig,
+    planes: &Planes,
+    buffers: &mut Buffers,
+) -> Result<(), NoMemory>
+    requires of { IsOf p.now planes.now }
+    requires target { task.sig.0 < signals_in p.now }
+    requires signal { sig.0 < signals_in p.now }
+    requires chunk { task.chunk < chunks_in p.now }
+    ensures blocks { buffers.new.blocks ≡ buffers.old.blocks }
+    ensures sees { OnOk result ((blocks : List AnyBlock) → Sees p.now planes.now blocks buffers.old.places.items buffers.old.view.items buffers.old.out.items
+        → Sees p.now planes.now (blocks ++ blocks_for p.now task.sig task.chunk sig) buffers.new.places.items buffers.new.view.items buffers.new.out.items) }
+{
+    see_block(p, sig, task.chunk, planes, buffers)?;
+    if sig == task.sig && goes_on(p, task) {
+        see_block(p, sig, task.chunk + 1, planes, buffers)?;
+    }
+    Ok(())
+}
+
+/// Whether the task is that of a flip-flop, and there is a next chunk.
+fn goes_on(p: &Problem, task: InChunk) -> bool
+    requires signal { task.sig.0 < signals_in p.now }
+    requires chunk { task.chunk < chunks_in p.now }
+    ensures goes_on { result ≡ goes_on_from p.now task.sig task.chunk }
+    ensures next { IsTrue result → task.chunk + 1 < 128 }
+{
+    let chunks = p.chunks();
+    matches!(p.net().kind_of(task.sig), Some(Kind::Dff)) && task.chunk + 1 < chunks
+}
+
+/// Adds a block and its words.
+fn see_block(
+    p: &Problem,
+    sig: Sig,
+    chunk: u32,
+    planes: &Planes,
+    buffers: &mut Buffers,
+) -> Result<(), NoMemory>
+    requires of { IsOf p.now planes.now }
+    requires signal { sig.0 < signals_in p.now }
+    requires chunk { chunk < chunks_in p.now }
+    ensures blocks { buffers.new.blocks ≡ buffers.old.blocks }
+    ensures sees { OnOk result ((blocks : List AnyBlock) → Sees p.now planes.now blocks buffers.old.places.items buffers.old.view.items buffers.old.out.items
+        → Sees p.now planes.now (blocks ++ block_at p.now sig chunk ∷ []) buffers.new.places.items buffers.new.view.items buffers.new.out.items) }
+{
+    buffers.places.push(InChunk { sig, chunk })?;
+    buffers.view.push(planes.word_in_chunk(p, sig, chunk))?;
+    buffers.out.push(PinWord { zero: 0, one: 0 })
+}
+
+/// Joins what is forced into the blocks, and answers whether something was new.
+fn join_all(
+    p: &Problem,
+    planes: &mut Planes,
+    queues: &mut TaskQueues,
+    places: &Sequence<InChunk>,
+    out: &PinWords,
+) -> Result<bool, NoMemory>
+    requires of { IsOf p.now planes.old }
+    requires are_tasks { AreTasksOf p.now queues.old }
+    requires inside { All (IsInside p.now) places.now.items }
+    requires out { length out.now.items ≡ length places.now.items }
+    requires later { HasNoLaterBit p.now (map (block_in p.now) places.now.items) out.now.items }
+    ensures wakes { OnOk result (Wakes p.now planes.old planes.new queues.old queues.new) }
+    ensures falls { IfOk result (λ added. Falls added planes.old planes.new queues.old queues.new) }
+    ensures joins { OnOk result (JoinsFirst (map (block_in p.now) places.now.items) out.now.items (length places.now.items) planes.old planes.new) }
+{
+    let mut added = false;
+    for place in 0..places.len() {
+        let at = places.as_slice()[place];
+        let words = out.as_slice()[place];
+        added = join(p, planes, queues, at.sig, at.chunk, words)? | added;
+    }
+    Ok(added)
+}
+
+/// Joins words into a block. Where that changes it, all tasks that it is in wait; the answer is whether it did.
+pub fn join(
+    p: &Problem,
+    planes: &mut Planes,
+    queues: &mut TaskQueues,
+    sig: Sig,
+    chunk: u32,
+    words: PinWord,
+) -> Result<bool, NoMemory>
+    requires of { IsOf p.now planes.old }
+    requires are_tasks { AreTasksOf p.now queues.old }
+    requires signal { sig.0 < signals_in p.now }
+    requires chunk { chunk < chunks_in p.now }
+    requires no_further { HasNoFurtherBit p.now chunk words }
+    ensures wakes { OnOk result (Wakes p.now planes.old planes.new queues.old queues.new) }
+    ensures falls { IfOk result (λ added. Falls added planes.old planes.new queues.old queues.new) }
+    ensures joins { OnOk result (Joins (block_at p.now sig chunk) words planes.old planes.new) }
+{
+    let old = planes.word_in_chunk(p, sig, chunk);
+    let new = union(old, words);
+    if new == old {
+        return Ok(false);
+    }
+    planes.set_in_chunk(p, sig, chunk, new);
+    wake(p, queues, sig, chunk)?;
+    Ok(true)
+}
+
+/// The literals of both.
+#[tactic(auto, using(crate::proofs::Waking::or_small))]
+fn union(a: PinWord, b: PinWord) -> PinWord
+    ensures joined { result ≡ joined a b }
+    ensures small_zero { result.zero < 2 ^ 64 }
+    ensures small_one { result.one < 2 ^ 64 }
+{
+    PinWord {
+        zero: a.zero | b.zero,
+        one: a.one | b.one,
+    }
+}
+
+/// Lets the tasks wait that a block is in: its signal's own ones and those of the other readers.
+fn wake(p: &Problem, queues: &mut TaskQueues, sig: Sig, chunk: u32) -> Result<(), NoMemory>
+    requires are_tasks { AreTasksOf p.now queues.old }
+    requires signal { sig.0 < signals_in p.now }
+    requires chunk { chunk < chunks_in p.now }
+    ensures { OnOk result (Pushed p.now (adjacent_from p.now sig chunk) queues.old queues.new) }
+{
+    wake_own(p, queues, sig, chunk)?;
+    for reader in p.net().other_readers(sig) {
+        push_task(p, queues, *reader, chunk)?;
+    }
+    Ok(())
+}
+
+/// Lets the signal's own tasks wait, if it is driven: that of the chunk, and a flip-flop's in the chunk before, if there is one.
+fn wake_own(p: &Problem, queues: &mut TaskQueues, sig: Sig, chunk: u32) -> Result<(), NoMemory>
+    requires are_tasks { AreTasksOf p.now queues.old }
+    requires signal { sig.0 < signals_in p.now }
+    requires chunk { chunk < chunks_in p.now }
+    ensures { OnOk result (Pushed p.now (own_tasks p.now (driver_at p.now.circuit.drivers sig.0) sig chunk) queues.old queues.new) }
+{
+    let Some(kind) = p.net().kind_of(sig) else {
+        return Ok(());
+    };
+    if matches!(kind, Kind::Dff) && chunk > 0 {
+        push_task(p, queues, sig, chunk - 1)?;
+        push_task(p, queues, sig, chunk)?;
+        return Ok(());
+    }
+    push_task(p, queues, sig, chunk)?;
+    Ok(())
+}
+
+/// Lets a task wait.
+pub fn push_task(
+    p: &Problem,
+    queues: &mut TaskQueues,
+    target: Sig,
+    chunk: u32,
+) -> Result<(), NoMemory>
+    requires are_tasks { AreTasksOf p.now queues.old }
+    requires task { IsTaskAt p.now target chunk }
+    ensures { OnOk result (Pushed p.now (task_at p.now target chunk ∷ []) queues.old queues.new) }
+{
+    queues.push(target, chunk)?;
+    Ok(())
+}

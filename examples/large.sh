@@ -1,0 +1,20 @@
+#!/usr/bin/env bash
+# Makes large.bench and large.dump here: a netlist of so many signals, and so many cycles of an eighth of its flip-flops.
+# usage: large.sh SIGNALS CYCLES
+# A sixteenth of the signals are inputs and an eighth flip-flops; the others are AND, OR and XOR gates of two earlier signals.
+# All signals are 0 in one of its executions, and the dump is of that one.
+set -eu
+awk -v signals="$1" -v cycles="$2" '
+function draw(below) { state = (state * 16807) % 2147483647; return state % below }
+BEGIN {
+    state = 1
+    split("AND OR XOR", kinds, " ")
+    inputs = int(signals / 16); flip_flops = int(signals / 8); first_gate = inputs + flip_flops
+    for (s = 0; s < inputs; s++) print "INPUT(n" s ")" > "large.bench"
+    for (s = first_gate; s < signals; s++)
+        print "n" s " = " kinds[draw(3) + 1] "(n" draw(s) ", n" draw(s) ")" > "large.bench"
+    for (s = inputs; s < first_gate; s++) print "n" s " = DFF(n" draw(signals) ")" > "large.bench"
+    zeros = sprintf("%" cycles "s", ""); gsub(" ", "0", zeros)
+    print "srdump 1\ncycles " cycles > "large.dump"
+    for (s = inputs; s < first_gate; s += 8) print "n" s " " zeros > "large.dump"
+}'
