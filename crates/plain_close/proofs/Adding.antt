@@ -20,7 +20,7 @@ use Rattle.gate_rules.specs.Forced.{ForcedIn}
 use Rattle.known_planes.specs.Planes.{PlaneSet, has, lits, words_at, no_bits, IsOf, HasNoFurtherBit}
 use Rattle.plain_close.specs.Queues.{Waiting, Waits}
 use Rattle.plain_close.specs.Turns.{AreTasksOf, IsSettled, Pushed, Wakes, Joins, Adds, AddsRow, has_bit}
-use Rattle.plain_close.proofs.SameCells.{forced-on_cells, same-on_cells}
+use Rattle.plain_close.proofs.SameCells.{forced-on_cells}
 use Rattle.plain_close.proofs.Waking.{member-cases}
 use Rattle.plain_close.proofs.Turning.{has-bit_of, bit-has, has-kept}
 
@@ -116,7 +116,7 @@ still-settled u x z before after settled wakes t is =
       | inl waits ↦ inl waits
       | inr same ↦ elim (settled t is) [
         | inl waited ↦ inl (wakes.kept t waited)
-        | inr done ↦ inr (λ l f. has-kept u x z wakes.bits l (done l (forced-on_cells u t (has u z) (has u x) (λ c bit of h. sym (same-on_cells u t x z same c bit of) ∙ h) l f)))
+        | inr done ↦ inr (λ l f. has-kept u x z wakes.bits l (done l (forced-on_cells u t (has u z) (has u x) (λ c bit of h. sym (same c bit of) ∙ h) l f)))
       ]
     ]
 

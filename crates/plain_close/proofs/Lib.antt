@@ -2,6 +2,10 @@ pub mod Adding
 pub mod Joining
 pub mod Pushing
 pub mod SameCells
+pub mod SettledOnce
+pub mod FreshBits
+pub mod TurnedTasks
+pub mod NoClash
 pub mod JoinedWords
 pub mod ListedTasks
 pub mod LevelJoins

@@ -1,7 +1,6 @@
 -- Tasks that wait, task after task.
-use Rattle.std.proofs.Common.{ℕ, ◌≡◌, ◌<◌, ◌≤◌, ◌⊎◌, ◌+◌, ◌-◌, ◌&&◌, true, not, eqb, cond, ltb, Some, None, List, [], ◌∷◌, ◌++◌, length, map, get_or, take, inl, inr, refl, sym, ap, subst, ◌∙◌}
+use Rattle.std.proofs.Common.{ℕ, ◌≡◌, ◌<◌, ◌≤◌, ◌⊎◌, ◌+◌, true, not, eqb, Some, None, List, [], ◌∷◌, ◌++◌, length, map, get_or, take, inl, inr, refl, sym, ap, subst, ◌∙◌}
 use Rattle.std.specs.List.{Contains}
-use Rattle.std.proofs.lemmas.Bool.{cases_Bool, and_parts, lt-ltb, ltb-true}
 use Rattle.std.proofs.lemmas.List.{take_more, take_all, append_assoc, map-append}
 use Rattle.std.proofs.lemmas.List.Elements.{Contains-append_cases, Contains-get_or}
 use Rattle.sr_model.specs.declared.cells.Sig.{Sig}
@@ -12,12 +11,12 @@ use Rattle.sr_model.proofs.Members.{not_in_nil, Contains-cases, filter-member, f
 use Rattle.netlist.specs.Wiring.{driver_at, kind_of, is_flip_flop, is_driven, reads, other_readers, signals_below, readers}
 use Rattle.unroll.specs.declared.problem.Task.{Task}
 use Rattle.unroll.specs.Problem.{Unrolling, IsProblem, signals_in, chunks_in}
-use Rattle.unroll.specs.Tasks.{IsTask, task_at, target_of, target_block, chunk_of, own_tasks, adjacent_from, constant_tasks}
+use Rattle.unroll.specs.Tasks.{IsTask, task_at, target_of, target_block, chunk_of, constant_tasks}
 use Rattle.unroll.proofs.BlockNumbers.{block-sig, block-chunk, sig-within, chunk-within, some_chunk, task-itself}
 use Rattle.unroll.proofs.AdjacentTasks.{reader-within}
 use Rattle.unroll.proofs.ConstantTasks.{force_from_nothing}
-use Rattle.plain_close.specs.Queues.{Waiting, Waits}
-use Rattle.plain_close.specs.Turns.{IsTaskAt, AreTasksOf, TaskWaits, Pushed}
+use Rattle.plain_close.specs.Queues.{Waiting, Waits, IsFirst}
+use Rattle.plain_close.specs.Turns.{IsTaskAt, AreTasksOf, TaskWaits, Pushed, before_woken, chunk_woken, own_woken, woken_from}
 
 some-kind : (a b : Kind) → Some a ≡ Some b → a ≡ b
 some-kind a b e = cc
@@ -29,8 +28,8 @@ task-waits u q target chunk early h =
 
 pub pushed-one : (u : Unrolling) (target : Sig) (chunk : ℕ) (old new : Waiting) → AreTasksOf u old → IsTaskAt u target chunk → new.signals ≡ old.signals → length new.rows ≡ length old.rows
     → Waits new target chunk → ((s : Sig) (c : ℕ) → Waits old s c → Waits new s c) → ((s : Sig) (c : ℕ) → Waits new s c → Waits old s c ⊎ ((s ≡ target) × (c ≡ chunk)))
-    → Pushed u (task_at u target chunk ∷ []) old new
-pushed-one u target chunk old new are is signals chunks waits kept only = record {
+    → ((s : Sig) (c : ℕ) → IsFirst old s c → IsFirst new s c) → Pushed u (task_at u target chunk ∷ []) old new
+pushed-one u target chunk old new are is signals chunks waits kept only first = record {
   are_tasks = record {
     signals = signals ∙ are.signals;
     chunks = chunks ∙ are.chunks;
@@ -40,6 +39,7 @@ pushed-one u target chunk old new are is signals chunks waits kept only = record
     ];
   };
   kept = λ t h. kept (target_of u t) (chunk_of u t) h;
+  first = first;
   pushed = λ t h. elim (Contains-cases (task_at u target chunk) [] t h) [
     | inl e ↦ subst (TaskWaits u new) e (task-waits u new target chunk is.early waits)
     | inr none ↦ absurd (not_in_nil t none)
@@ -48,13 +48,14 @@ pushed-one u target chunk old new are is signals chunks waits kept only = record
 
 -- none
 pub pushed-none : (u : Unrolling) (q : Waiting) → AreTasksOf u q → Pushed u [] q q
-pushed-none u q are = record { are_tasks = are; kept = λ t h. h; pushed = λ t h. absurd (not_in_nil t h) }
+pushed-none u q are = record { are_tasks = are; kept = λ t h. h; first = λ s c h. h; pushed = λ t h. absurd (not_in_nil t h) }
 
 -- one list after another
 pub pushed-then : (u : Unrolling) (xs ys : List Task) (a b c : Waiting) → Pushed u xs a b → Pushed u ys b c → Pushed u (xs ++ ys) a c
 pushed-then u xs ys a b c first second = record {
   are_tasks = second.are_tasks;
   kept = λ t h. second.kept t (first.kept t h);
+  first = λ s c h. second.first s c (first.first s c h);
   pushed = λ t h. elim (Contains-append_cases xs ys t h) [
     | inl here ↦ second.kept t (first.pushed t here)
     | inr there ↦ second.pushed t there
@@ -65,37 +66,32 @@ pushed-then u xs ys a b c first second = record {
 pub pushed-same : (u : Unrolling) (xs ys : List Task) (a b : Waiting) → xs ≡ ys → Pushed u xs a b → Pushed u ys a b
 pushed-same u xs ys a b e p = subst (λ zs. Pushed u zs a b) e p
 
--- the tasks of a driven signal itself
-pub own-two : (u : Unrolling) (d : Driver) (s : Sig) (chunk : ℕ) → kind_of d ≡ Some Dff → 0 < chunk → own_tasks u d s chunk ≡ (task_at u s (chunk - 1) ∷ []) ++ task_at u s chunk ∷ []
-own-two u Input s chunk e h = cc
-own-two u (Driven kind pins) s chunk e h =
-    ap (λ k. (cond (is_flip_flop (Driven k pins) && ltb 0 chunk) (task_at u s (chunk - 1) ∷ []) []) ++ task_at u s chunk ∷ []) (some-kind kind Dff e)
-    ∙ ap (λ b. (cond b (task_at u s (chunk - 1) ∷ []) []) ++ task_at u s chunk ∷ []) (lt-ltb 0 chunk h)
+-- the tasks of a signal itself that fresh bits are in: none of an input, and one of a gate
+pub own-none : (u : Unrolling) (d : Driver) (s : Sig) (chunk fresh : ℕ) → kind_of d ≡ None → own_woken u d s chunk fresh ≡ []
+own-none u Input s chunk fresh e = refl
+own-none u (Driven kind pins) s chunk fresh e = cc
 
-pub own-one : (u : Unrolling) (d : Driver) (kind : Kind) (s : Sig) (chunk : ℕ) → kind_of d ≡ Some kind → ((kind ≡ Dff) → 0 < chunk → ⊥) → own_tasks u d s chunk ≡ task_at u s chunk ∷ []
-own-one u Input kind s chunk e no_two = cc
-own-one u (Driven k pins) kind s chunk e no_two =
-    elim (cases_Bool (is_flip_flop (Driven k pins) && ltb 0 chunk)) [
-      | inr off ↦ ap (λ b. (cond b (task_at u s (chunk - 1) ∷ []) []) ++ task_at u s chunk ∷ []) off
-      | inl on ↦
-          let parts : (is_flip_flop (Driven k pins) ≡ true) × (ltb 0 chunk ≡ true) = and_parts (is_flip_flop (Driven k pins)) (ltb 0 chunk) on in
-          absurd (no_two (sym (some-kind k kind e) ∙ dff k pins parts.0) (ltb-true 0 chunk parts.1))
-    ]
-  where
-    dff : (k : Kind) (pins : List Sig) → is_flip_flop (Driven k pins) ≡ true → k ≡ Dff
-    dff Dff pins e = refl
-    dff And pins e = cc
-    dff Nand pins e = cc
-    dff Or pins e = cc
-    dff Nor pins e = cc
-    dff Xor pins e = cc
-    dff Xnor pins e = cc
-    dff Not pins e = cc
-    dff Buf pins e = cc
+pub own-gate : (u : Unrolling) (d : Driver) (kind : Kind) (s : Sig) (chunk fresh : ℕ) → kind_of d ≡ Some kind → (kind ≡ Dff → ⊥) → own_woken u d s chunk fresh ≡ task_at u s chunk ∷ []
+own-gate u Input kind s chunk fresh e gate = cc
+own-gate u (Driven Dff pins) kind s chunk fresh e gate = absurd (gate (sym (some-kind Dff kind e)))
+own-gate u (Driven And pins) kind s chunk fresh e gate = refl
+own-gate u (Driven Nand pins) kind s chunk fresh e gate = refl
+own-gate u (Driven Or pins) kind s chunk fresh e gate = refl
+own-gate u (Driven Nor pins) kind s chunk fresh e gate = refl
+own-gate u (Driven Xor pins) kind s chunk fresh e gate = refl
+own-gate u (Driven Xnor pins) kind s chunk fresh e gate = refl
+own-gate u (Driven Not pins) kind s chunk fresh e gate = refl
+own-gate u (Driven Buf pins) kind s chunk fresh e gate = refl
 
-pub own-none : (u : Unrolling) (d : Driver) (s : Sig) (chunk : ℕ) → kind_of d ≡ None → own_tasks u d s chunk ≡ []
-own-none u Input s chunk e = refl
-own-none u (Driven kind pins) s chunk e = cc
+-- and those of a flip-flop
+pub own-flip_flop : (u : Unrolling) (d : Driver) (s : Sig) (chunk fresh : ℕ) → kind_of d ≡ Some Dff → own_woken u d s chunk fresh ≡ before_woken u s chunk fresh ++ chunk_woken u d s chunk fresh
+own-flip_flop u Input s chunk fresh e = cc
+own-flip_flop u (Driven kind pins) s chunk fresh e =
+    subst (λ k. own_woken u (Driven k pins) s chunk fresh ≡ before_woken u s chunk fresh ++ chunk_woken u (Driven k pins) s chunk fresh) (sym (some-kind kind Dff e)) refl
+
+pub is-flip_flop : (d : Driver) → kind_of d ≡ Some Dff → is_flip_flop d ≡ true
+is-flip_flop Input e = cc
+is-flip_flop (Driven kind pins) e = ap (λ k. is_flip_flop (Driven k pins)) (some-kind kind Dff e)
 
 -- the task of a driven signal in a chunk
 pub own-is : (u : Unrolling) (s : Sig) (chunk : ℕ) (kind : Kind) → s.0 < signals_in u → chunk < chunks_in u → kind_of (driver_at u.circuit.drivers s.0) ≡ Some kind → IsTaskAt u s chunk
@@ -131,10 +127,10 @@ readers-more u chunk own rs i d a b c h before more =
     (pushed-then u (own ++ map (λ r. task_at u r chunk) (take i rs)) (task_at u (get_or rs i d) chunk ∷ []) a b c before more)
 
 -- all of them
-pub readers-all : (u : Unrolling) (s : Sig) (chunk : ℕ) (rs : List Sig) (i : ℕ) (a b : Waiting) → rs ≡ other_readers u.circuit.drivers s → length rs ≤ i
-    → Pushed u (own_tasks u (driver_at u.circuit.drivers s.0) s chunk ++ map (λ r. task_at u r chunk) (take i rs)) a b → Pushed u (adjacent_from u s chunk) a b
-readers-all u s chunk rs i a b is all p =
-    pushed-same u _ _ a b (ap (λ xs. own_tasks u (driver_at u.circuit.drivers s.0) s chunk ++ map (λ r. task_at u r chunk) xs) (take_all i rs all ∙ is)) p
+pub readers-all : (u : Unrolling) (s : Sig) (chunk fresh : ℕ) (rs : List Sig) (i : ℕ) (a b : Waiting) → rs ≡ other_readers u.circuit.drivers s → length rs ≤ i
+    → Pushed u (own_woken u (driver_at u.circuit.drivers s.0) s chunk fresh ++ map (λ r. task_at u r chunk) (take i rs)) a b → Pushed u (woken_from u s chunk fresh) a b
+readers-all u s chunk fresh rs i a b is all p =
+    pushed-same u _ _ a b (ap (λ xs. own_woken u (driver_at u.circuit.drivers s.0) s chunk fresh ++ map (λ r. task_at u r chunk) xs) (take_all i rs all ∙ is)) p
 
 -- constant tasks are tasks
 pub constant-is : (u : Unrolling) → IsProblem u → (ts : List Task) → ts ≡ constant_tasks u → (i : ℕ) (d : Task) → i < length ts → IsTask u (get_or ts i d)

@@ -8,13 +8,13 @@ use Rattle.sr_model.specs.declared.cells.Cell.{Cell}
 use Rattle.sr_model.specs.declared.cells.Lit.{Lit}
 use Rattle.sr_model.specs.Closure.{Closure, SameLits, IsClosed, lit}
 use Rattle.sr_model.proofs.ClosureLaws.{forced_between, closed_between, same_closure, has_base}
-use Rattle.sr_model.proofs.Members.{not_in_nil, Contains-cases}
+use Rattle.sr_model.proofs.Members.{not_in_nil, Contains-cases, Contains-here}
 use Rattle.unroll.specs.declared.problem.Block.{Block}
 use Rattle.unroll.specs.declared.problem.Task.{Task}
 use Rattle.unroll.specs.declared.words.PinWord.{PinWord}
 use Rattle.unroll.specs.Bits.{is_set, word_for}
 use Rattle.unroll.specs.Problem.{Unrolling, unrolled, IsProblem, chunks_in, sig_at, chunk_at, block_of, bit_of, cell_of}
-use Rattle.unroll.specs.Tasks.{IsTask, IsCellOf, task_of, adjacent_tasks, task_at, target_of, chunk_of, blocks_of, blocks_from}
+use Rattle.unroll.specs.Tasks.{IsTask, IsCellOf, task_of, task_at, target_of, chunk_of, blocks_of, blocks_from}
 use Rattle.unroll.proofs.BlockNumbers.{block-sig, block-chunk, cycle-chunk, task-itself}
 use Rattle.unroll.proofs.WordBits.{is_set_zero}
 use Rattle.unroll.proofs.TaskCells.{have_its_cells, each_in_one_task}
@@ -22,9 +22,9 @@ use Rattle.gate_rules.specs.Forced.{ForcedIn, IsForcedExactly, bit_at_place, lit
 use Rattle.gate_rules.proofs.NewLiterals.{forced-in_time}
 use Rattle.known_planes.specs.Planes.{PlaneSet, has, lits, words_at, no_bits, IsOf}
 use Rattle.plain_close.specs.declared.task_queues.InChunk.{InChunk}
-use Rattle.plain_close.specs.Queues.{Waiting, Waits}
+use Rattle.plain_close.specs.Queues.{Waiting, Waits, IsFirst}
 use Rattle.plain_close.specs.Turns.{IsTaskAt, AreTasksOf, TaskWaits, IsDone, IsSettled, Wakes, JoinsFirst, Turns, Between, Sees, block_in, has_bit, missing_of}
-use Rattle.plain_close.proofs.SameCells.{forced-on_cells, same-on_cells}
+use Rattle.plain_close.proofs.SameCells.{forced-on_cells}
 
 -- what the words beside the blocks are, where each is that of its block
 pub words-listed : (blocks : List Block) (f : Block → PinWord) (b : Block) → Contains blocks b → words_of blocks (map f blocks) b ≡ f b
@@ -138,9 +138,13 @@ module _ (u : Unrolling) (is : IsProblem u) (t : Task) (old new : PlaneSet) (blo
         ];
   }
 
+-- the first that waits is a task
+pub first-task : (u : Unrolling) (q : Waiting) (s : Sig) (chunk : ℕ) → AreTasksOf u q → IsFirst q s chunk → IsTaskAt u s chunk
+first-task u q s chunk are first = are.tasks s chunk (subst (λ r. Contains r s) (sym first.first) (Contains-here s first.others))
+
 -- the tasks that are left after one was taken
-pub popped-tasks : (u : Unrolling) (q popped : Waiting) → AreTasksOf u q → popped.signals ≡ q.signals → length popped.rows ≡ length q.rows → ((s : Sig) (c : ℕ) → Waits popped s c → Waits q s c) → AreTasksOf u popped
-popped-tasks u q popped are signals chunks only = record { signals = signals ∙ are.signals; chunks = chunks ∙ are.chunks; tasks = λ s c h. are.tasks s c (only s c h) }
+pub same-tasks : (u : Unrolling) (q popped : Waiting) → AreTasksOf u q → popped.signals ≡ q.signals → length popped.rows ≡ length q.rows → ((s : Sig) (c : ℕ) → Waits popped s c → Waits q s c) → AreTasksOf u popped
+same-tasks u q popped are signals chunks only = record { signals = signals ∙ are.signals; chunks = chunks ∙ are.chunks; tasks = λ s c h. are.tasks s c (only s c h) }
 
 -- nothing was done yet
 pub between-none : (u : Unrolling) (planes : PlaneSet) (q : Waiting) → IsOf u planes → AreTasksOf u q → IsSettled u planes q → Between u planes planes q
@@ -153,13 +157,13 @@ between-none u planes q of are settled = record {
   no_more = omega arith;
 }
 
--- a task was taken, and had its turn
-pub between-turn : (u : Unrolling) (x y z : PlaneSet) (q popped after : Waiting) (s : Sig) (chunk : ℕ) → Between u x y q → IsTaskAt u s chunk
-    → ((r : Sig) (c : ℕ) → Waits q r c → Waits popped r c ⊎ ((r ≡ s) × (c ≡ chunk))) → Wakes u y z popped after → missing_of z ≤ missing_of y → Turns u (task_at u s chunk) y z → Between u x z after
-between-turn u x y z q popped after s chunk before task kept wakes no_more turn = record {
+-- A task had its turn. What waits after it waits on, or is done.
+pub between-turn : (u : Unrolling) (x y z : PlaneSet) (q after left : Waiting) (t : Task) → Between u x y q → Wakes u y z q after → missing_of z ≤ missing_of y → Turns u t y z
+    → AreTasksOf u left → ((r : Task) → TaskWaits u after r → TaskWaits u left r ⊎ IsDone u r (has u z)) → Between u x z left
+between-turn u x y z q after left t before wakes no_more turn are waits_on = record {
   of = wakes.of;
-  are_tasks = wakes.are_tasks;
-  settled = λ t is. settled t is;
+  are_tasks = are;
+  settled = λ r is. settled r is;
   kept = λ l h. has-kept u y z wakes.bits l (before.kept l h);
   in_closure = λ l h. elim (turn.only l h) [
     | inl old ↦ before.in_closure l old
@@ -168,24 +172,27 @@ between-turn u x y z q popped after s chunk before task kept wakes no_more turn 
   no_more = omega (arith, no_more, before.no_more);
 }
   where
-    -- where no block of a task changed, it is done if what it forced before is there
-    done : (t : Task) → ((b : Block) → Contains (adjacent_tasks u b) t → words_at z b ≡ words_at y b) → ((l : Lit) → ForcedIn u t (has u y) l → has u z l ≡ true) → IsDone u t (has u z)
-    done t same there l f = there l (forced-on_cells u t (has u z) (has u y) (λ c bit of h. sym (same-on_cells u t y z same c bit of) ∙ h) l f)
-
-    settled : (t : Task) → IsTask u t → TaskWaits u after t ⊎ IsDone u t (has u z)
-    settled t is =
-        elim (wakes.woken t) [
-          | inl waits ↦ inl waits
-          | inr same ↦ elim (before.settled t is) [
-            | inr was_done ↦ inr (done t same (λ l f. has-kept u y z wakes.bits l (was_done l f)))
-            | inl waited ↦ elim (kept (target_of u t) (chunk_of u t) waited) [
-              | inl still ↦ inl (wakes.kept t still)
-              | inr taken ↦
-                  let one : task_at u s chunk ≡ t = ap (λ r. task_at u r chunk) (sym taken.0) ∙ ap (task_at u (target_of u t)) (sym taken.1) ∙ task-itself u t in
-                  inr (done t same (λ l f. turn.done l (subst (λ (k : Task). ForcedIn u k (has u y) l) (sym one) f)))
-            ]
+    settled : (r : Task) → IsTask u r → TaskWaits u left r ⊎ IsDone u r (has u z)
+    settled r is =
+        elim (wakes.woken r) [
+          | inl waits ↦ waits_on r waits
+          | inr same ↦ elim (before.settled r is) [
+            | inl waited ↦ waits_on r (wakes.kept r waited)
+            | inr was_done ↦ inr (λ l f. has-kept u y z wakes.bits l (was_done l (forced-on_cells u r (has u z) (has u y) (λ c bit of h. sym (same c bit of) ∙ h) l f)))
           ]
         ]
+
+-- what waits where the task was taken if it was done
+pub left-done : (u : Unrolling) (z : PlaneSet) (after left : Waiting) (s : Sig) (chunk : ℕ) (again : Bool)
+    → ((r : Sig) (c : ℕ) → Waits after r c → Waits left r c ⊎ ((again ≡ false) × (r ≡ s) × (c ≡ chunk)))
+    → (again ≡ false → IsDone u (task_at u s chunk) (has u z)) → (t : Task) → TaskWaits u after t → TaskWaits u left t ⊎ IsDone u t (has u z)
+left-done u z after left s chunk again kept done t waits =
+    elim (kept (target_of u t) (chunk_of u t) waits) [
+      | inl still ↦ inl still
+      | inr (no_more, of, in_chunk) ↦
+          let one : task_at u s chunk ≡ t = ap (λ r. task_at u r chunk) (sym of) ∙ ap (task_at u (target_of u t)) (sym in_chunk) ∙ task-itself u t in
+          inr (subst (λ k. IsDone u k (has u z)) one (done no_more))
+    ]
 
 -- some turns after others
 pub between-then : (u : Unrolling) (x y z : PlaneSet) (q r : Waiting) → Between u x y q → Between u y z r → Between u x z r
@@ -209,20 +216,6 @@ all-done u planes q settled none l (p, f) =
 
 pub closure-is : (u : Unrolling) (x y : PlaneSet) (q : Waiting) → Between u x y q → IsClosed (unrolled u) (lits u y) → SameLits (lits u y) (Closure (unrolled u) (lits u x))
 closure-is u x y q between closed = closed_between (unrolled u) (lits u x) (lits u y) between.kept between.in_closure closed
-
--- none waits: the tasks that are left are none
-pub between-end : (u : Unrolling) (x y : PlaneSet) (q popped : Waiting) → Between u x y q → ((s : Sig) (c : ℕ) → Waits q s c → ⊥) → AreTasksOf u popped → Between u x y popped
-between-end u x y q popped before none are = record {
-  of = before.of;
-  are_tasks = are;
-  settled = λ t is. elim (before.settled t is) [
-    | inl waits ↦ absurd (none (target_of u t) (chunk_of u t) waits)
-    | inr done ↦ inr done
-  ];
-  kept = before.kept;
-  in_closure = before.in_closure;
-  no_more = before.no_more;
-}
 
 -- the blocks of a task by its signal and chunk
 pub blocks-at : (u : Unrolling) (s : Sig) (chunk : ℕ) → chunk < chunks_in u → blocks_from u s chunk ≡ blocks_of u (task_at u s chunk)

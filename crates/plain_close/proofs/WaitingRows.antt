@@ -1,5 +1,5 @@
 -- The tasks that wait, and their flags, after one more and after one less.
-use Rattle.std.proofs.Common.{ℕ, suc, zero, ◌≡◌, ◌+◌, ◌*◌, ◌<◌, ◌≤◌, ◌⊎◌, Bool, true, false, List, [], ◌∷◌, ◌++◌, length, map, get_or, set, length-set, replicate, arith, inl, inr, sym, ap, subst, ◌∙◌}
+use Rattle.std.proofs.Common.{ℕ, suc, zero, ◌≡◌, ◌+◌, ◌*◌, ◌<◌, ◌≤◌, ◌⊎◌, Bool, true, false, List, [], ◌∷◌, ◌++◌, length, map, get_or, set, length-set, replicate, drop, arith, inl, inr, sym, ap, subst, ◌∙◌}
 use Rattle.std.specs.List.{Contains, sum_by, All}
 use Rattle.std.proofs.lemmas.Bool.{cases_eq, cases_lt, true≢false}
 use Rattle.std.proofs.lemmas.Nat.{same_from_place, mul-add-lt}
@@ -9,7 +9,7 @@ use Rattle.std.proofs.Math.ListN.{get_or-eq_default}
 use Rattle.std.proofs.lemmas.List.Elements.{All-head, All-tail, Contains-append_left, Contains-push, Contains-push_cases}
 use Rattle.sr_model.specs.declared.cells.Sig.{Sig}
 use Rattle.sr_model.proofs.Members.{not_in_nil, Contains-cases, Contains-there, Contains-here}
-use Rattle.plain_close.specs.Queues.{Waiting, row_at, flag_at, IsFlagged}
+use Rattle.plain_close.specs.Queues.{Waiting, Waits, IsFirst, row_at, flag_at, waiting_count, IsFlagged}
 
 abbrev pub over : ℕ → List (List Sig) → Waiting
 over signals rows = record { signals = signals; rows = rows }
@@ -64,6 +64,19 @@ module _ (rows : List (List Sig)) (chunk : ℕ) (s : Sig) (within : chunk < leng
               | inr e ↦ inr (sym e, same)
             ]
         | inr other ↦ inl (subst (λ r. Contains r x) (row-elsewhere rows chunk (row_at rows chunk ++ s ∷ []) within c other) h)
+      ]
+
+  -- what is the first in a chunk stays it
+  pub push-first : (x : Sig) (c : ℕ) (others : List Sig) → row_at rows c ≡ x ∷ others → (more : List Sig) × (row_at rows-pushed c ≡ x ∷ more)
+  unfolding rows-pushed
+  push-first x c others e =
+      elim (cases_eq c chunk) [
+        | inl same ↦ (
+          others ++ s ∷ [],
+          ap (row_at (set rows chunk (row_at rows chunk ++ s ∷ []))) same ∙ row-there rows chunk (row_at rows chunk ++ s ∷ []) within
+              ∙ ap (λ r. r ++ s ∷ []) (sym (ap (row_at rows) same) ∙ e),
+        )
+        | inr other ↦ (others, row-elsewhere rows chunk (row_at rows chunk ++ s ∷ []) within c other ∙ e)
       ]
 
 -- one row loses its first target
@@ -184,13 +197,6 @@ module _ {Q : Type 0} (items : Q → List Sig) (queues : List Q) (chunk : ℕ) (
   unfolding rows-pushed
   pushed-rows s is = map-set items queues chunk new ∙ ap (set (map items queues) chunk) (is ∙ ap (λ r. r ++ s ∷ []) (sym row-is))
 
-  popped-is : (s : Sig) → items old ≡ s ∷ items new → row_at (map items queues) chunk ≡ s ∷ items new
-  popped-is s is = row-is ∙ is
-
-  popped-rows : (s : Sig) (is : items old ≡ s ∷ items new) → map items (set queues chunk new) ≡ rows-popped (map items queues) chunk s (items new) rows-within (popped-is s is)
-  unfolding rows-popped
-  popped-rows s is = map-set items queues chunk new
-
   module _ (signals : ℕ) (flags : List Bool) (current : ℕ) (inv : IsFlagged signals (map items queues) flags × (current ≤ length queues)) where
     size-kept : (n : ℕ) → n ≤ length queues → n ≤ length (set queues chunk new)
     size-kept n h = subst (λ m. n ≤ m) (sym (length-set queues chunk new)) h
@@ -207,19 +213,6 @@ module _ {Q : Type 0} (items : Q → List Sig) (queues : List Q) (chunk : ℕ) (
       size-kept current inv.1,
     )
 
-    pub pop-place : (s : Sig) → items old ≡ s ∷ items new → chunk * signals + s.0 < length flags
-    pop-place s is =
-        place-within signals (map items queues) flags chunk s rows-within
-        (popped-within signals (map items queues) flags chunk s (items new) rows-within (popped-is s is) inv.0) inv.0
-
-    pub pop-invariant : (s : Sig) → items old ≡ s ∷ items new
-        → IsFlagged signals (map items (set queues chunk new)) (set flags (chunk * signals + s.0) false) × (chunk ≤ length (set queues chunk new))
-    pop-invariant s is = (
-      subst (λ rows. IsFlagged signals rows (set flags (chunk * signals + s.0) false)) (sym (popped-rows s is))
-          (pop-flagged signals (map items queues) flags chunk s (items new) rows-within (popped-is s is) inv.0),
-      size-kept chunk (omega (arith, within)),
-    )
-
   module _ (s : Sig) where
     -- what waits after a push
     pub pushed-waits : items new ≡ items old ++ s ∷ [] → Contains (row_at (map items (set queues chunk new)) chunk) s
@@ -232,21 +225,11 @@ module _ {Q : Type 0} (items : Q → List Sig) (queues : List Q) (chunk : ℕ) (
         → Contains (row_at (map items queues) c) x ⊎ ((x ≡ s) × (c ≡ chunk))
     pushed-only is x c h = push-only (map items queues) chunk s rows-within x c (subst (λ rows. Contains (row_at rows c) x) (pushed-rows s is) h)
 
-    -- and after a pop
-    pub popped-waited : items old ≡ s ∷ items new → Contains (row_at (map items queues) chunk) s
-    popped-waited is = pop-waited (map items queues) chunk s (items new) rows-within (popped-is s is)
-
-    pub popped-kept : items old ≡ s ∷ items new → (x : Sig) (c : ℕ) → Contains (row_at (map items queues) c) x
-        → Contains (row_at (map items (set queues chunk new)) c) x ⊎ ((x ≡ s) × (c ≡ chunk))
-    popped-kept is x c h =
-        subst (λ rows. Contains (row_at rows c) x ⊎ ((x ≡ s) × (c ≡ chunk))) (sym (popped-rows s is)) (pop-kept (map items queues) chunk s (items new) rows-within (popped-is s is) x c h)
-
-    pub popped-only : items old ≡ s ∷ items new → (x : Sig) (c : ℕ) → Contains (row_at (map items (set queues chunk new)) c) x → Contains (row_at (map items queues) c) x
-    popped-only is x c h =
-        pop-only (map items queues) chunk s (items new) rows-within (popped-is s is) x c (subst (λ rows. Contains (row_at rows c) x) (popped-rows s is) h)
-
-    pub popped-fewer : items old ≡ s ∷ items new → sum_by length (map items (set queues chunk new)) < sum_by length (map items queues)
-    popped-fewer is = subst (λ rows. sum_by length rows < sum_by length (map items queues)) (sym (popped-rows s is)) (pop-fewer (map items queues) chunk s (items new) rows-within (popped-is s is))
+    pub pushed-first : items new ≡ items old ++ s ∷ [] → (x : Sig) (c : ℕ) (others : List Sig) → row_at (map items queues) c ≡ x ∷ others
+        → (more : List Sig) × (row_at (map items (set queues chunk new)) c ≡ x ∷ more)
+    pushed-first is x c others e =
+        let p : (more : List Sig) × (row_at (rows-pushed (map items queues) chunk s rows-within) c ≡ x ∷ more) = push-first (map items queues) chunk s rows-within x c others e in
+        (p.0, subst (λ rows. row_at rows c ≡ x ∷ p.0) (sym (pushed-rows s is)) p.1)
 
 -- what is said of the view is so of the queues
 module _ {Q : Type 0} (items : Q → List Sig) (queues : List Q) (signals : ℕ) (q : Waiting) (view : over signals (map items queues) ≡ q) where
@@ -258,6 +241,61 @@ module _ {Q : Type 0} (items : Q → List Sig) (queues : List Q) (signals : ℕ)
 
   pub place-is : (place chunk : ℕ) (s : Sig) → place ≡ chunk * q.signals + s.0 → place ≡ chunk * signals + s.0
   place-is place chunk s h = subst (λ (w : Waiting). place ≡ chunk * w.signals + s.0) (sym view) h
+
+-- the first of a queue is taken
+module _ {Q : Type 0} (items : Q → List Sig) (queues : List Q) (signals : ℕ) (flags : List Bool) (current : ℕ) (inv : IsFlagged signals (map items queues) flags × (current ≤ length queues))
+    (q : Waiting) (view : over signals (map items queues) ≡ q) (s : Sig) (chunk : ℕ) (first : IsFirst q s chunk) where
+  first-waits : Contains (row_at (map items queues) chunk) s
+  first-waits =
+      subst (λ (w : Waiting). Contains (row_at w.rows chunk) s) (sym view) (subst (λ r. Contains r s) (sym first.first) (Contains-here s first.others))
+
+  pub first-signal : s.0 < q.signals
+  first-signal = subst (λ (w : Waiting). s.0 < w.signals) view (inv.0.within s chunk first-waits)
+
+  pub first-chunk : chunk < length q.rows
+  first-chunk = subst (λ (w : Waiting). chunk < length w.rows) view (row-within (map items queues) chunk s first-waits)
+
+  module _ (old new : Q) (was : old ≡ get_or queues chunk old) (rest : items new ≡ drop 1 (items old)) where
+    within : chunk < length queues
+    within = queue-within items queues signals q view chunk first-chunk
+
+    rows-is : row_at (map items queues) chunk ≡ s ∷ items new
+    rows-is =
+        let row : items old ≡ s ∷ first.others = sym (row-is items queues chunk old old within was) ∙ ap (λ (w : Waiting). row_at w.rows chunk) view ∙ first.first in
+        row-is items queues chunk old old within was ∙ row ∙ ap (λ xs. s ∷ xs) (sym (rest ∙ ap (drop 1) row))
+
+    popped : map items (set queues chunk new) ≡ rows-popped (map items queues) chunk s (items new) (row-within (map items queues) chunk s first-waits) rows-is
+    unfolding rows-popped
+    popped = map-set items queues chunk new
+
+    pub pop-place : (place : ℕ) → place ≡ chunk * q.signals + s.0 → place < length flags
+    pop-place place is =
+        subst (λ n. n < length flags) (sym (place-is items queues signals q view place chunk s is))
+        (place-within signals (map items queues) flags chunk s (row-within (map items queues) chunk s first-waits) (inv.0.within s chunk first-waits) inv.0)
+
+    pub pop-invariant : (place : ℕ) → place ≡ chunk * q.signals + s.0 → IsFlagged signals (map items (set queues chunk new)) (set flags place false) × (current ≤ length (set queues chunk new))
+    pop-invariant place is = (
+      subst (λ n. IsFlagged signals (map items (set queues chunk new)) (set flags n false)) (sym (place-is items queues signals q view place chunk s is))
+          (subst (λ rows. IsFlagged signals rows (set flags (chunk * signals + s.0) false)) (sym popped)
+          (pop-flagged signals (map items queues) flags chunk s (items new) (row-within (map items queues) chunk s first-waits) rows-is inv.0)),
+      subst (λ n. current ≤ n) (sym (length-set queues chunk new)) inv.1,
+    )
+
+    pub popped-kept : (x : Sig) (c : ℕ) → Waits q x c → Contains (row_at (map items (set queues chunk new)) c) x ⊎ ((x ≡ s) × (c ≡ chunk))
+    popped-kept x c h =
+        subst (λ rows. Contains (row_at rows c) x ⊎ ((x ≡ s) × (c ≡ chunk))) (sym popped)
+        (pop-kept (map items queues) chunk s (items new) (row-within (map items queues) chunk s first-waits) rows-is x c (subst (λ (w : Waiting). Waits w x c) (sym view) h))
+
+    pub popped-only : (x : Sig) (c : ℕ) → Contains (row_at (map items (set queues chunk new)) c) x → Waits q x c
+    popped-only x c h =
+        subst (λ (w : Waiting). Waits w x c) view
+        (pop-only (map items queues) chunk s (items new) (row-within (map items queues) chunk s first-waits) rows-is x c (subst (λ rows. Contains (row_at rows c) x) popped h))
+
+    pub popped-fewer : sum_by length (map items (set queues chunk new)) < waiting_count q
+    popped-fewer =
+        subst (λ (w : Waiting). sum_by length (map items (set queues chunk new)) < waiting_count w) view
+        (subst (λ rows. sum_by length rows < sum_by length (map items queues)) (sym popped)
+        (pop-fewer (map items queues) chunk s (items new) (row-within (map items queues) chunk s first-waits) rows-is))
 
 -- no row up to this one has anything
 pub none-more : {Q : Type 0} (items : Q → List Sig) (queues : List Q) (chunk : ℕ) (old : Q) (start : ℕ) (rows : List (List Sig)) → rows ≡ map items queues → chunk < length queues → old ≡ get_or queues chunk old

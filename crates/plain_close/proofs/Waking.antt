@@ -1,24 +1,27 @@
 -- Words that are joined into a block, and the tasks that wait then.
-use Rattle.std.proofs.Common.{ℕ, ◌≡◌, ◌<◌, ◌≤◌, ◌⊎◌, ◌+◌, ◌-◌, ◌^◌, ◌||◌, ◌&&◌, Bool, true, false, eqb, List, [], ◌∷◌, length, get_or, set, bit_or, w64, arith, inl, inr, refl, sym, ap, subst, ◌∙◌}
+use Rattle.std.proofs.Common.{ℕ, ◌≡◌, ◌<◌, ◌≤◌, ◌⊎◌, ◌+◌, ◌-◌, ◌/◌, ◌^◌, ◌||◌, ◌&&◌, Bool, true, false, eqb, ltb, List, [], ◌∷◌, length, get_or, set, bit_or, w64, arith, inl, inr, refl, sym, ap, subst, ◌∙◌}
 use Rattle.std.specs.List.{Contains, sum_by}
 use Rattle.std.proofs.lemmas.Bool.{cases_eq, or_cases, or_left, or_right, and_parts, and_from, eqb-true, eq-eqb, true≢false}
 use Rattle.std.proofs.Math.Facts.{Fits-or}
 use Rattle.std.proofs.lemmas.Nat.{le_or_l}
 use Rattle.std.proofs.lemmas.List.Sums.{sum_by-set}
 use Rattle.sr_model.specs.declared.cells.Sig.{Sig}
+use Rattle.sr_model.specs.declared.cells.Cell.{Cell}
 use Rattle.sr_model.proofs.Members.{not_in_nil, Contains-cases, Contains-there, Contains-here}
 use Rattle.unroll.specs.declared.problem.Block.{Block}
 use Rattle.unroll.specs.declared.problem.Task.{Task}
 use Rattle.unroll.specs.declared.words.PinWord.{PinWord}
 use Rattle.unroll.specs.Bits.{is_set, word_for}
-use Rattle.unroll.specs.Problem.{Unrolling, signals_in, chunks_in, block_at, chunk_at}
-use Rattle.unroll.specs.Tasks.{adjacent_tasks, adjacent_from}
+use Rattle.unroll.specs.Problem.{Unrolling, signals_in, chunks_in, block_at, block_of, bit_of, sig_at, chunk_at}
+use Rattle.unroll.specs.Tasks.{IsCellOf}
 use Rattle.unroll.proofs.BlockNumbers.{block-sig, block-chunk, block-within}
+use Rattle.unroll.proofs.TaskCells.{role, cell-chunk}
 use Rattle.known_planes.specs.Planes.{PlaneSet, words_at, with_words, joined, no_bits, IsOf}
 use Rattle.known_planes.proofs.Members.{words-there, words-elsewhere}
 use Rattle.known_planes.proofs.DumpRows.{joined-bit}
 use Rattle.plain_close.specs.Queues.{Waiting}
-use Rattle.plain_close.specs.Turns.{AreTasksOf, Pushed, Wakes, Falls, Joins, has_bit, missing_of}
+use Rattle.plain_close.specs.Turns.{AreTasksOf, Pushed, Wakes, Falls, Joins, has_bit, missing_of, woken_from}
+use Rattle.plain_close.proofs.FreshBits.{fresh-cell}
 
 -- whether a task is listed
 pub member-cases : (xs : List Task) (t : Task) → Contains xs t ⊎ (Contains xs t → ⊥)
@@ -96,8 +99,9 @@ module _ (u : Unrolling) (s : Sig) (chunk : ℕ) (w : PinWord) (old : PlaneSet) 
       ];
     }
 
-    pub wakes-new : (before after : Waiting) → IsOf u new → Pushed u (adjacent_from u s chunk) before after → Wakes u old new before after
-    wakes-new before after new_of p = record {
+    pub wakes-new : (fresh : ℕ) → ((i : ℕ) (bit : Bool) → is_set fresh i ≡ false → is_set (word_for bit (joined here w)) i ≡ is_set (word_for bit here) i)
+        → (before after : Waiting) → IsOf u new → Pushed u (woken_from u s chunk fresh) before after → Wakes u old new before after
+    wakes-new fresh not_fresh before after new_of p = record {
       of = new_of;
       are_tasks = p.are_tasks;
       bits = λ a bit i h. elim (cases_eq a.0 (block_at u s chunk).0) [
@@ -108,17 +112,35 @@ module _ (u : Unrolling) (s : Sig) (chunk : ℕ) (w : PinWord) (old : PlaneSet) 
         | inr other ↦ ap (λ x. is_set (word_for bit x) i) (elsewhere a other) ∙ h
       ];
       kept = p.kept;
-      woken = λ t. elim (member-cases (adjacent_from u s chunk) t) [
+      first = p.first;
+      woken = λ t. elim (member-cases (woken_from u s chunk fresh) t) [
         | inl listed ↦ inl (p.pushed t listed)
-        | inr none ↦ inr (λ a h. elsewhere a (λ same. none (at_block t a h same)))
+        | inr none ↦ inr (λ c bit of. ap (λ x. ltb c.cycle u.cycles && x) (same_bit t none c bit of))
       ];
     }
       where
-        at_block : (t : Task) (a : Block) → Contains (adjacent_tasks u a) t → a.0 ≡ (block_at u s chunk).0 → Contains (adjacent_from u s chunk) t
-        at_block t a h same =
-            let one : a ≡ block_at u s chunk = ap (λ n. record { 0 = n }) same in
-            subst (λ c. Contains (adjacent_from u s c) t) (block-chunk u s chunk early)
-            (subst (λ x. Contains (adjacent_from u x (chunk_at u (block_at u s chunk))) t) (block-sig u s chunk early) (subst (λ b. Contains (adjacent_tasks u b) t) one h))
+        -- the cell's block has its signal and chunk
+        sig-is : (c : Cell) → c.cycle / 64 < chunks_in u → (block_of u c).0 ≡ (block_at u s chunk).0 → c.sig ≡ s
+        sig-is c in_time same = sym (block-sig u c.sig (c.cycle / 64) in_time) ∙ ap (sig_at u) (ap (λ n. record { 0 = n }) same) ∙ block-sig u s chunk early
+
+        chunk-is : (c : Cell) → c.cycle / 64 < chunks_in u → (block_of u c).0 ≡ (block_at u s chunk).0 → c.cycle / 64 ≡ chunk
+        chunk-is c in_time same = sym (block-chunk u c.sig (c.cycle / 64) in_time) ∙ ap (chunk_at u) (ap (λ n. record { 0 = n }) same) ∙ block-chunk u s chunk early
+
+        same_bit : (t : Task) → (Contains (woken_from u s chunk fresh) t → ⊥) → (c : Cell) (bit : Bool) → IsCellOf u t c
+            → is_set (word_for bit (words_at new (block_of u c))) (bit_of c) ≡ is_set (word_for bit (words_at old (block_of u c))) (bit_of c)
+        same_bit t none c bit of =
+            elim (cases_eq (block_of u c).0 (block_at u s chunk).0) [
+              | inr other ↦ ap (λ x. is_set (word_for bit x) (bit_of c)) (elsewhere (block_of u c) other)
+              | inl same ↦
+                  let in_time : c.cycle / 64 < chunks_in u = cell-chunk u of.place c (role u of.place of.instance c of.stands of.has_cell) in
+                  let one : block_of u c ≡ block_at u s chunk = ap (λ n. record { 0 = n }) same in
+                  elim (fresh-cell u fresh t c s chunk of (sig-is c in_time same) (chunk-is c in_time same)) [
+                    | inl listed ↦ absurd (none listed)
+                    | inr stale ↦
+                        ap (λ b. is_set (word_for bit (words_at new b)) (bit_of c)) one ∙ ap (λ x. is_set (word_for bit x) (bit_of c)) there ∙ not_fresh (bit_of c) bit stale
+                        ∙ ap (λ x. is_set (word_for bit x) (bit_of c)) here_is ∙ ap (λ b. is_set (word_for bit (words_at old b)) (bit_of c)) (sym one)
+                  ]
+            ]
 
     pub falls-new : (before after : Waiting) → (joined here w ≡ here → ⊥) → (joined here w).zero < 2 ^ 64 → (joined here w).one < 2 ^ 64 → Falls true old new before after
     unfolding gap
@@ -145,17 +167,18 @@ wakes-then u a b c p q r first second = record {
   are_tasks = second.are_tasks;
   bits = λ x bit i h. second.bits x bit i (first.bits x bit i h);
   kept = λ t h. second.kept t (first.kept t h);
+  first = λ s k h. second.first s k (first.first s k h);
   woken = λ t. elim (second.woken t) [
     | inl waits ↦ inl waits
     | inr same ↦ elim (first.woken t) [
       | inl waited ↦ inl (second.kept t waited)
-      | inr before ↦ inr (λ x h. same x h ∙ before x h)
+      | inr before ↦ inr (λ x bit h. same x bit h ∙ before x bit h)
     ]
   ];
 }
 
 pub wakes-none : (u : Unrolling) (a : PlaneSet) (p : Waiting) → IsOf u a → AreTasksOf u p → Wakes u a a p p
-wakes-none u a p of are = record { of = of; are_tasks = are; bits = λ x bit i h. h; kept = λ t h. h; woken = λ t. inr (λ x h. refl) }
+wakes-none u a p of are = record { of = of; are_tasks = are; bits = λ x bit i h. h; kept = λ t h. h; first = λ s k h. h; woken = λ t. inr (λ x bit h. refl) }
 
 pub falls-then : (x y : Bool) (a b c : PlaneSet) (p q r : Waiting) → Falls x a b p q → Falls y b c q r → Falls (y || x) a c p r
 falls-then x true a b c p q r first second = record {

@@ -1,5 +1,5 @@
 -- Tasks that wait, chunk by chunk.
-use Rattle.std.specs.Prelude.{ℕ, ◌≡◌, ◌<◌, ◌≤◌, ◌*◌, ◌+◌, Bool, true, false, List, [], length, slice_index_or}
+use Rattle.std.specs.Prelude.{ℕ, ◌≡◌, ◌<◌, ◌≤◌, ◌*◌, ◌+◌, Bool, true, false, List, [], ◌∷◌, length, slice_index_or}
 use Rattle.std.specs.List.{Contains, sum_by}
 use Rattle.sr_model.specs.declared.cells.Sig.{Sig}
 
@@ -14,6 +14,11 @@ row_at rows chunk = slice_index_or rows chunk []
 -- the target's task in the chunk waits
 abbrev pub Waits : Waiting → Sig → ℕ → Type 0
 Waits q target chunk = Contains (row_at q.rows chunk) target
+
+-- it is the first that waits in the chunk
+pub record IsFirst (q : Waiting) (target : Sig) (chunk : ℕ) : Type 0 where
+  pub others : List Sig
+  pub first : row_at q.rows chunk ≡ target ∷ others
 
 -- how many wait
 abbrev pub waiting_count : Waiting → ℕ

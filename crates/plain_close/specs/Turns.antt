@@ -1,20 +1,23 @@
 -- What turns of tasks make of planes and of the tasks that wait.
-use Rattle.std.specs.Prelude.{ℕ, ◌≡◌, ◌+◌, ◌-◌, ◌^◌, ◌<◌, ◌≤◌, ◌⊎◌, Bool, true, IsTrue, IsFalse, List, length, map, slice_index_or}
+use Rattle.std.specs.Prelude.{ℕ, ◌≡◌, ◌+◌, ◌-◌, ◌^◌, ◌<◌, ◌≤◌, ◌⊎◌, ◌&&◌, ◌||◌, ◌++◌, ◌∷◌, [], Bool, true, false, nat_lt, if◌then◌else◌, IsTrue, IsFalse, List, length, map, slice_index_or}
 use Rattle.std.specs.List.{All, Contains, sum_by}
+use Rattle.sr_model.specs.declared.gates.Kind.TheVariants.{Dff}
 use Rattle.sr_model.specs.declared.cells.Sig.{Sig}
+use Rattle.sr_model.specs.declared.cells.Cell.{Cell}
 use Rattle.sr_model.specs.declared.cells.Lit.{Lit}
-use Rattle.sr_model.specs.Closure.{Closure, IsWithin}
-use Rattle.netlist.specs.Wiring.{driver_at, is_driven}
+use Rattle.sr_model.specs.Closure.{Closure, IsWithin, lit}
+use Rattle.sr_model.specs.Netlist.{Driver, Input, Driven}
+use Rattle.netlist.specs.Wiring.{driver_at, is_driven, is_flip_flop, reads, other_readers}
 use Rattle.unroll.specs.declared.problem.Block.{Block}
 use Rattle.unroll.specs.declared.problem.Task.{Task}
 use Rattle.unroll.specs.declared.words.PinWord.{PinWord}
 use Rattle.unroll.specs.Bits.{is_set, word_for}
 use Rattle.unroll.specs.Problem.{Unrolling, unrolled, signals_in, chunks_in, block_at}
-use Rattle.unroll.specs.Tasks.{IsTask, target_of, chunk_of, adjacent_tasks}
+use Rattle.unroll.specs.Tasks.{IsTask, IsCellOf, task_at, target_of, chunk_of}
 use Rattle.gate_rules.specs.Forced.{ForcedIn, bit_at_place}
 use Rattle.known_planes.specs.Planes.{PlaneSet, has, lits, words_at, IsOf}
 use Rattle.plain_close.specs.declared.task_queues.InChunk.{InChunk}
-use Rattle.plain_close.specs.Queues.{Waiting, Waits}
+use Rattle.plain_close.specs.Queues.{Waiting, Waits, IsFirst}
 
 -- a gate or flip-flop drives the signal, and there is the chunk
 pub record IsTaskAt (u : Unrolling) (target : Sig) (chunk : ℕ) : Type 0 where
@@ -43,7 +46,29 @@ IsSettled u planes q = (t : Task) → IsTask u t → TaskWaits u q t ⊎ IsDone 
 pub record Pushed (u : Unrolling) (tasks : List Task) (before after : Waiting) : Type 0 where
   pub are_tasks : AreTasksOf u after
   pub kept : (t : Task) → TaskWaits u before t → TaskWaits u after t
+  pub first : (s : Sig) (chunk : ℕ) → IsFirst before s chunk → IsFirst after s chunk
   pub pushed : (t : Task) → Contains tasks t → TaskWaits u after t
+
+-- a flip-flop's tasks that fresh bits of its block are in: bit 0 is in that of the chunk before, and the others are in that of the chunk, where they all are if the flip-flop is its own pin
+abbrev pub before_woken : Unrolling → Sig → ℕ → ℕ → List Task
+before_woken u s chunk fresh = if nat_lt 0 chunk && is_set fresh 0 then task_at u s (chunk - 1) ∷ [] else []
+
+abbrev pub chunk_woken : Unrolling → Driver → Sig → ℕ → ℕ → List Task
+chunk_woken u driver s chunk fresh = if nat_lt 1 fresh || reads driver s then task_at u s chunk ∷ [] else []
+
+-- the tasks of a signal itself that they are in
+abbrev pub own_woken : Unrolling → Driver → Sig → ℕ → ℕ → List Task
+own_woken u Input s chunk fresh = []
+own_woken u (Driven Dff pins) s chunk fresh = before_woken u s chunk fresh ++ chunk_woken u (Driven Dff pins) s chunk fresh
+own_woken u (Driven _ pins) s chunk fresh = task_at u s chunk ∷ []
+
+-- all tasks that they are in
+abbrev pub woken_from : Unrolling → Sig → ℕ → ℕ → List Task
+woken_from u s chunk fresh = own_woken u (driver_at u.circuit.drivers s.0) s chunk fresh ++ map (λ r. task_at u r chunk) (other_readers u.circuit.drivers s)
+
+-- a flip-flop that is its own pin
+abbrev pub drives_itself : Unrolling → Sig → Bool
+drives_itself u s = is_flip_flop (driver_at u.circuit.drivers s.0) && reads (driver_at u.circuit.drivers s.0) s
 
 -- whether the planes have a bit of a block
 abbrev pub has_bit : PlaneSet → Block → Bool → ℕ → Bool
@@ -53,13 +78,14 @@ has_bit planes b bit i = is_set (word_for bit (words_at planes b)) i
 abbrev pub missing_of : PlaneSet → ℕ
 missing_of planes = sum_by (λ w. 2 ^ 64 - w.zero + (2 ^ 64 - w.one)) planes.words
 
--- nothing is lost, and each task that is in a block whose words changed waits
+-- nothing is lost, and each task with a cell whose literals changed waits
 pub record Wakes (u : Unrolling) (old new : PlaneSet) (before after : Waiting) : Type 0 where
   pub of : IsOf u new
   pub are_tasks : AreTasksOf u after
   pub bits : (b : Block) (bit : Bool) (i : ℕ) → has_bit old b bit i ≡ true → has_bit new b bit i ≡ true
   pub kept : (t : Task) → TaskWaits u before t → TaskWaits u after t
-  pub woken : (t : Task) → TaskWaits u after t ⊎ ((b : Block) → Contains (adjacent_tasks u b) t → words_at new b ≡ words_at old b)
+  pub first : (s : Sig) (chunk : ℕ) → IsFirst before s chunk → IsFirst after s chunk
+  pub woken : (t : Task) → TaskWaits u after t ⊎ ((c : Cell) (bit : Bool) → IsCellOf u t c → has u new (lit c bit) ≡ has u old (lit c bit))
 
 -- nothing changed, or the words are nearer to being full
 pub record Falls (added : Bool) (old new : PlaneSet) (before after : Waiting) : Type 0 where
@@ -99,7 +125,11 @@ pub record Sees (u : Unrolling) (planes : PlaneSet) (blocks : List Block) (place
   pub view_is : view ≡ map (words_at planes) blocks
   pub out_size : length out ≡ length blocks
 
--- a turn of a task: it is done as far as the old literals go, and adds nothing else
+-- no cell of the blocks has both literals
+abbrev pub HaveNoClash : PlaneSet → List Block → Type 0
+HaveNoClash planes blocks = (b : Block) (i : ℕ) → Contains blocks b → has_bit planes b false i ≡ true → has_bit planes b true i ≡ true → ⊥
+
+-- a turn of a task adds what it forces from the old literals, and nothing else
 pub record Turns (u : Unrolling) (t : Task) (old new : PlaneSet) : Type 0 where
   pub done : (l : Lit) → ForcedIn u t (has u old) l → has u new l ≡ true
   pub only : (l : Lit) → has u new l ≡ true → (has u old l ≡ true) ⊎ ForcedIn u t (has u old) l

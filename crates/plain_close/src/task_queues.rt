@@ -1,7 +1,7 @@
 //! The tasks that wait to be done.
 ghost use Rattle.std.specs.Prelude.{ℕ, ◌≡◌, ◌+◌, ◌*◌, ◌<◌, ◌≤◌, ◌⊎◌, [], All, length, IfOk, IfSome, IsNone, OnOk};
 ghost use Rattle.sr_model.specs.declared.cells.Sig.{Sig as AnySig};
-ghost use Rattle.plain_close.specs.Queues.{Waits, waiting_count, row_at};
+ghost use Rattle.plain_close.specs.Queues.{Waits, IsFirst, waiting_count, row_at};
 
 use sr_model::{NoMemory, Sig};
 use std::alloc::Global;
@@ -68,6 +68,7 @@ impl TaskQueues {
         ensures waits { OnOk result (Waits self.new target chunk) }
         ensures kept { OnOk result ((s : AnySig) (c : ℕ) → Waits self.old s c → Waits self.new s c) }
         ensures only { OnOk result ((s : AnySig) (c : ℕ) → Waits self.new s c → Waits self.old s c ⊎ ((s ≡ target) × (c ≡ chunk))) }
+        ensures first { OnOk result ((s : AnySig) (c : ℕ) → IsFirst self.old s c → IsFirst self.new s c) }
     {
         let place = self.place(target, chunk);
         if self.flags[place] {
@@ -81,25 +82,33 @@ impl TaskQueues {
         Ok(())
     }
 
-    /// Takes a task, of the same chunk as the last one if one waits there; None exactly where none waits.
-    pub fn pop(&mut self) -> Option<InChunk>
-        ensures signals { self.new.signals ≡ self.old.signals }
-        ensures chunks { length self.new.rows ≡ length self.old.rows }
-        ensures waited { IfSome result (λ t. Waits self.old t.sig t.chunk) }
-        ensures kept { IfSome result (λ t. (s : AnySig) (c : ℕ) → Waits self.old s c → Waits self.new s c ⊎ ((s ≡ t.sig) × (c ≡ t.chunk))) }
-        ensures only { (s : AnySig) (c : ℕ) → Waits self.new s c → Waits self.old s c }
-        ensures fewer { IfSome result (λ t. waiting_count self.new < waiting_count self.old) }
+    /// The next task, of the same chunk as the last one if one waits there; it waits on. None exactly where none waits.
+    pub fn first(&mut self) -> Option<InChunk>
+        ensures same { self.new ≡ self.old }
+        ensures first { IfSome result (λ t. IsFirst self.old t.sig t.chunk) }
         ensures none { IsNone result → (s : AnySig) (c : ℕ) → Waits self.old s c → ⊥ }
     {
         let chunk = self.next_chunk()?;
         self.current = chunk;
-        let sig = self.queues[chunk].pop_front()?;
-        let place = chunk * self.signals as usize + sig.0 as usize;
-        self.flags[place] = false;
+        let sig = *self.queues[chunk].front()?;
         Some(InChunk {
             sig,
             chunk: chunk as u32,
         })
+    }
+
+    /// Takes a task that is the first in its chunk.
+    pub fn pop(&mut self, task: InChunk)
+        requires first { IsFirst self.old task.sig task.chunk }
+        ensures signals { self.new.signals ≡ self.old.signals }
+        ensures chunks { length self.new.rows ≡ length self.old.rows }
+        ensures kept { (s : AnySig) (c : ℕ) → Waits self.old s c → Waits self.new s c ⊎ ((s ≡ task.sig) × (c ≡ task.chunk)) }
+        ensures only { (s : AnySig) (c : ℕ) → Waits self.new s c → Waits self.old s c }
+        ensures fewer { waiting_count self.new < waiting_count self.old }
+    {
+        let place = self.place(task.sig, task.chunk);
+        self.queues[task.chunk as usize].pop_front();
+        self.flags[place] = false;
     }
 
     /// The first chunk with a task, from the current one on and then from the first one.

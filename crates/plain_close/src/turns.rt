@@ -1,13 +1,16 @@
 //! Turns of tasks: what a task forces is added, and the tasks about it wait again.
-ghost use Rattle.std.specs.Prelude.{◌≡◌, ◌+◌, ◌^◌, ◌<◌, ◌≤◌, ◌++◌, ◌∷◌, [], length, map, IfOk, OnOk, IsFalse, IsTrue, All, List};
+ghost use Rattle.std.specs.Prelude.{ℕ, ◌≡◌, ◌+◌, ◌^◌, ◌<◌, ◌≤◌, ◌++◌, ◌∷◌, ◌⊎◌, [], Bool, true, false, length, map, IfOk, OnOk, IsFalse, IsTrue, All, List};
+ghost use Rattle.sr_model.specs.declared.cells.Sig.{Sig as AnySig};
 ghost use Rattle.sr_model.specs.Closure.{Closure, SameLits, IsClosed};
-ghost use Rattle.netlist.specs.Wiring.{driver_at};
+ghost use Rattle.netlist.specs.Wiring.{driver_at, is_flip_flop};
 ghost use Rattle.unroll.specs.declared.problem.Block.{Block as AnyBlock};
+ghost use Rattle.unroll.specs.Bits.{is_set, word_for};
 ghost use Rattle.unroll.specs.Problem.{IsProblem, unrolled, signals_in, chunks_in, block_at};
-ghost use Rattle.unroll.specs.Tasks.{task_at, adjacent_from, own_tasks, blocks_from, blocks_for, goes_on_from};
+ghost use Rattle.unroll.specs.Tasks.{task_at, blocks_from, blocks_for, goes_on_from};
 ghost use Rattle.gate_rules.specs.Forced.{HasNoLaterBit};
-ghost use Rattle.known_planes.specs.Planes.{IsOf, lits, joined, HasNoFurtherBit};
-ghost use Rattle.plain_close.specs.Turns.{IsTaskAt, AreTasksOf, IsSettled, IsInside, Pushed, Wakes, Falls, Joins, JoinsFirst, Sees, Turns, Between, block_in, missing_of};
+ghost use Rattle.known_planes.specs.Planes.{IsOf, has, lits, joined, HasNoFurtherBit};
+ghost use Rattle.plain_close.specs.Queues.{Waits, IsFirst, waiting_count};
+ghost use Rattle.plain_close.specs.Turns.{IsTaskAt, AreTasksOf, IsSettled, IsDone, IsInside, Pushed, Wakes, Falls, Joins, JoinsFirst, Sees, Turns, Between, HaveNoClash, block_in, missing_of, before_woken, chunk_woken, own_woken, woken_from, drives_itself};
 
 use crate::task_queues::{InChunk, TaskQueues};
 use gate_rules::forced_in_chunk;
@@ -73,30 +76,55 @@ fn turn_to_next(
     ensures fewer { IfOk result (λ added. IsTrue added → missing_of planes.new < missing_of planes.old) }
     ensures closed { IfOk result (λ added. IsFalse added → IsClosed (unrolled p.now) (lits p.now planes.new)) }
 {
-    while let Some(task) = queues.pop() {
-        if turn(p, task, planes, queues, buffers)? {
+    while let Some(task) = queues.first() {
+        let turned = turn(p, task, planes, queues, buffers)?;
+        take_turned(queues, task, turned.again);
+        if turned.added {
             return Ok(true);
         }
     }
     Ok(false)
 }
 
-/// The turn of a task, and whether it added something.
+/// Takes a task that has had its turn, unless it is to have another one.
+fn take_turned(queues: &mut TaskQueues, task: InChunk, again: bool)
+    requires first { IsFirst queues.old task.sig task.chunk }
+    ensures signals { queues.new.signals ≡ queues.old.signals }
+    ensures chunks { length queues.new.rows ≡ length queues.old.rows }
+    ensures kept { (s : AnySig) (c : ℕ) → Waits queues.old s c → Waits queues.new s c ⊎ (IsFalse again × (s ≡ task.sig) × (c ≡ task.chunk)) }
+    ensures only { (s : AnySig) (c : ℕ) → Waits queues.new s c → Waits queues.old s c }
+    ensures fewer { IsFalse again → waiting_count queues.new < waiting_count queues.old }
+{
+    if !again {
+        queues.pop(task);
+    }
+}
+
+/// Whether a turn added something, and whether its task may force more now.
+#[derive(Clone, Copy)]
+struct Turned {
+    added: bool,
+    again: bool,
+}
+
+/// The turn of a task, which waits on meanwhile.
 fn turn(
     p: &Problem,
     task: InChunk,
     planes: &mut Planes,
     queues: &mut TaskQueues,
     buffers: &mut Buffers,
-) -> Result<bool, NoMemory>
+) -> Result<Turned, NoMemory>
     requires of { IsOf p.now planes.old }
     requires are_tasks { AreTasksOf p.now queues.old }
     requires task { IsTaskAt p.now task.sig task.chunk }
     requires room { 1025 ≤ buffers.old.blocks.room }
     ensures room { buffers.old.blocks.room ≤ buffers.new.blocks.room }
     ensures wakes { OnOk result (Wakes p.now planes.old planes.new queues.old queues.new) }
-    ensures falls { IfOk result (λ added. Falls added planes.old planes.new queues.old queues.new) }
+    ensures falls { IfOk result (λ turned. Falls turned.added planes.old planes.new queues.old queues.new) }
     ensures turns { OnOk result (Turns p.now (task_at p.now task.sig task.chunk) planes.old planes.new) }
+    ensures done { IfOk result (λ turned. IsFalse turned.again → IsDone p.now (task_at p.now task.sig task.chunk) (has p.now planes.new)) }
+    ensures again { IfOk result (λ turned. IsFalse turned.added → IsFalse turned.again) }
 {
     see(p, task, planes, buffers)?;
     forced_in_chunk(
@@ -108,7 +136,50 @@ fn turn(
         &mut buffers.out,
     );
     let added = join_all(p, planes, queues, &buffers.places, &buffers.out)?;
-    Ok(added)
+    let again = may_force_more(p, task, planes, &buffers.places, added);
+    Ok(Turned { added, again })
+}
+
+/// Whether a task may force more after its turn: only where that added something, and one of its cells has both literals or its flip-flop drives itself.
+fn may_force_more(
+    p: &Problem,
+    task: InChunk,
+    planes: &Planes,
+    places: &Sequence<InChunk>,
+    added: bool,
+) -> bool
+    requires of { IsOf p.now planes.now }
+    requires signal { task.sig.0 < signals_in p.now }
+    requires inside { All (IsInside p.now) places.now.items }
+    ensures other { IsFalse result → IsTrue added → drives_itself p.now task.sig ≡ false }
+    ensures none { IsFalse result → IsTrue added → HaveNoClash planes.now (map (block_in p.now) places.now.items) }
+    ensures nothing { IsFalse added → IsFalse result }
+{
+    added && (have_clash(p, planes, places) || drives_itself(p, task.sig))
+}
+
+/// Whether a cell of these blocks has both literals.
+fn have_clash(p: &Problem, planes: &Planes, places: &Sequence<InChunk>) -> bool
+    requires of { IsOf p.now planes.now }
+    requires inside { All (IsInside p.now) places.now.items }
+    ensures none { IsFalse result → HaveNoClash planes.now (map (block_in p.now) places.now.items) }
+{
+    for at in places.as_slice() {
+        let words = planes.word_in_chunk(p, at.sig, at.chunk);
+        if words.zero & words.one != 0 {
+            return true;
+        }
+    }
+    false
+}
+
+/// Whether a flip-flop drives the signal and has it as its pin.
+fn drives_itself(p: &Problem, sig: Sig) -> bool
+    requires signal { sig.0 < signals_in p.now }
+    ensures { result ≡ drives_itself p.now sig }
+{
+    let net = p.net();
+    matches!(net.kind_of(sig), Some(Kind::Dff)) && net.pins_of(sig).contains(&sig)
 }
 
 /// Puts the blocks of a task, and their words, into the buffers.
@@ -212,7 +283,7 @@ fn join_all(
     Ok(added)
 }
 
-/// Joins words into a block. Where that changes it, all tasks that it is in wait; the answer is whether it did.
+/// Joins words into a block. Where that changes it, all tasks that the new bits are in wait; the answer is whether it did.
 pub fn join(
     p: &Problem,
     planes: &mut Planes,
@@ -236,7 +307,7 @@ pub fn join(
         return Ok(false);
     }
     planes.set_in_chunk(p, sig, chunk, new);
-    wake(p, queues, sig, chunk)?;
+    wake(p, queues, sig, chunk, fresh(old, new))?;
     Ok(true)
 }
 
@@ -253,37 +324,92 @@ fn union(a: PinWord, b: PinWord) -> PinWord
     }
 }
 
-/// Lets the tasks wait that a block is in: its signal's own ones and those of the other readers.
-fn wake(p: &Problem, queues: &mut TaskQueues, sig: Sig, chunk: u32) -> Result<(), NoMemory>
+/// The bits that differ in one of the words.
+#[tactic(auto, using(crate::proofs::FreshBits::not_fresh))]
+fn fresh(old: PinWord, new: PinWord) -> u64
+    ensures { (i : ℕ) (bit : Bool) → is_set result i ≡ false → is_set (word_for bit new) i ≡ is_set (word_for bit old) i }
+{
+    (old.zero ^ new.zero) | (old.one ^ new.one)
+}
+
+/// Lets the tasks wait that fresh bits of a block are in: its signal's own ones and those of the other readers.
+fn wake(
+    p: &Problem,
+    queues: &mut TaskQueues,
+    sig: Sig,
+    chunk: u32,
+    fresh: u64,
+) -> Result<(), NoMemory>
     requires are_tasks { AreTasksOf p.now queues.old }
     requires signal { sig.0 < signals_in p.now }
     requires chunk { chunk < chunks_in p.now }
-    ensures { OnOk result (Pushed p.now (adjacent_from p.now sig chunk) queues.old queues.new) }
+    ensures { OnOk result (Pushed p.now (woken_from p.now sig chunk fresh) queues.old queues.new) }
 {
-    wake_own(p, queues, sig, chunk)?;
+    wake_own(p, queues, sig, chunk, fresh)?;
     for reader in p.net().other_readers(sig) {
         push_task(p, queues, *reader, chunk)?;
     }
     Ok(())
 }
 
-/// Lets the signal's own tasks wait, if it is driven: that of the chunk, and a flip-flop's in the chunk before, if there is one.
-fn wake_own(p: &Problem, queues: &mut TaskQueues, sig: Sig, chunk: u32) -> Result<(), NoMemory>
+/// Lets the signal's own tasks wait, if it is driven: that of the chunk, and of a flip-flop those that have the bits.
+fn wake_own(
+    p: &Problem,
+    queues: &mut TaskQueues,
+    sig: Sig,
+    chunk: u32,
+    fresh: u64,
+) -> Result<(), NoMemory>
     requires are_tasks { AreTasksOf p.now queues.old }
     requires signal { sig.0 < signals_in p.now }
     requires chunk { chunk < chunks_in p.now }
-    ensures { OnOk result (Pushed p.now (own_tasks p.now (driver_at p.now.circuit.drivers sig.0) sig chunk) queues.old queues.new) }
+    ensures { OnOk result (Pushed p.now (own_woken p.now (driver_at p.now.circuit.drivers sig.0) sig chunk fresh) queues.old queues.new) }
 {
-    let Some(kind) = p.net().kind_of(sig) else {
-        return Ok(());
-    };
-    if matches!(kind, Kind::Dff) && chunk > 0 {
-        push_task(p, queues, sig, chunk - 1)?;
-        push_task(p, queues, sig, chunk)?;
+    match p.net().kind_of(sig) {
+        None => Ok(()),
+        Some(Kind::Dff) => {
+            wake_before(p, queues, sig, chunk, fresh)?;
+            wake_in_chunk(p, queues, sig, chunk, fresh)
+        }
+        Some(_) => push_task(p, queues, sig, chunk),
+    }
+}
+
+/// Lets a flip-flop's task in the chunk before wait, if there is one and bit 0 is fresh.
+fn wake_before(
+    p: &Problem,
+    queues: &mut TaskQueues,
+    sig: Sig,
+    chunk: u32,
+    fresh: u64,
+) -> Result<(), NoMemory>
+    requires are_tasks { AreTasksOf p.now queues.old }
+    requires task { IsTaskAt p.now sig chunk }
+    ensures { OnOk result (Pushed p.now (before_woken p.now sig chunk fresh) queues.old queues.new) }
+{
+    if chunk == 0 || fresh % 2 == 0 {
         return Ok(());
     }
-    push_task(p, queues, sig, chunk)?;
-    Ok(())
+    push_task(p, queues, sig, chunk - 1)
+}
+
+/// Lets a flip-flop's task in the chunk wait, if another bit is fresh, or the flip-flop is its own pin.
+fn wake_in_chunk(
+    p: &Problem,
+    queues: &mut TaskQueues,
+    sig: Sig,
+    chunk: u32,
+    fresh: u64,
+) -> Result<(), NoMemory>
+    requires are_tasks { AreTasksOf p.now queues.old }
+    requires task { IsTaskAt p.now sig chunk }
+    requires flip_flop { is_flip_flop (driver_at p.now.circuit.drivers sig.0) ≡ true }
+    ensures { OnOk result (Pushed p.now (chunk_woken p.now (driver_at p.now.circuit.drivers sig.0) sig chunk fresh) queues.old queues.new) }
+{
+    if fresh <= 1 && !drives_itself(p, sig) {
+        return Ok(());
+    }
+    push_task(p, queues, sig, chunk)
 }
 
 /// Lets a task wait.

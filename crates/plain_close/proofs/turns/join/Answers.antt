@@ -1,5 +1,6 @@
 use Rattle.std.proofs.Common.{◌^◌, ◌<◌, ap, sym, subst, ◌∙◌}
 use Rattle.unroll.specs.declared.words.PinWord.{PinWord}
+use Rattle.unroll.specs.Bits.{is_set, word_for}
 use Rattle.unroll.specs.Problem.{block_at}
 use Rattle.known_planes.specs.Planes.{with_words, HasNoFurtherBit}
 use Rattle.known_planes.proofs.DumpRows.{joined-none}
@@ -21,7 +22,8 @@ pub returns-clause-wakes : goal.returns-clause-wakes
 returns-clause-wakes c =
     wakes-new c.args.p.now c.args.sig c.args.chunk c.args.words c.args.planes.now c.requires.of c.requires.signal c.requires.chunk c.word_in_chunk-old.result c.word_in_chunk-old.ensures
     c.set_in_chunk.new.self
-    (c.set_in_chunk.ensures.words ∙ ap (with_words c.args.planes.now (block_at c.args.p.now c.args.sig c.args.chunk)) c.union-new.ensures.joined) c.args.queues.now c.wake.new.queues c.set_in_chunk.ensures.of c.in_ok-wake.ensures
+    (c.set_in_chunk.ensures.words ∙ ap (with_words c.args.planes.now (block_at c.args.p.now c.args.sig c.args.chunk)) c.union-new.ensures.joined) c.fresh.result
+    (λ i bit stale. ap (λ w. is_set (word_for bit w) i) (sym c.union-new.ensures.joined) ∙ c.fresh.ensures i bit stale) c.args.queues.now c.wake.new.queues c.set_in_chunk.ensures.of c.in_ok-wake.ensures
 
 pub returns-clause-falls : goal.returns-clause-falls
 returns-clause-falls c =

@@ -2,13 +2,13 @@ use Rattle.std.proofs.Common.{arith, ap, ◌∙◌, sym}
 use Rattle.std.proofs.lemmas.List.{append-nil}
 use Rattle.netlist.specs.Circuit.{Circuit}
 use Rattle.netlist.specs.Wiring.{driver_at, other_readers}
-use Rattle.unroll.specs.Tasks.{own_tasks}
+use Rattle.plain_close.specs.Turns.{own_woken}
 use Rattle.plain_close.proofs.Pushing.{reader-is, readers-more, readers-all, pushed-same}
 use Rattle.plain_close.proofs.turns.wake.Goals as goal
 
 pub loop-reader-init : goal.loop-reader-init
 loop-reader-init c =
-    pushed-same c.args.p.now _ _ c.args.queues.now c.wake_own.new.queues (sym (append-nil (own_tasks c.args.p.now (driver_at c.args.p.now.circuit.drivers c.args.sig.0) c.args.sig c.args.chunk))) c.in_ok-wake_own.ensures
+    pushed-same c.args.p.now _ _ c.args.queues.now c.wake_own.new.queues (sym (append-nil (own_woken c.args.p.now (driver_at c.args.p.now.circuit.drivers c.args.sig.0) c.args.sig c.args.chunk c.args.fresh))) c.in_ok-wake_own.ensures
 
 pub push_task-requires-clause-are_tasks : goal.push_task-requires-clause-are_tasks
 push_task-requires-clause-are_tasks c = c.loop-reader.invariant.are_tasks
@@ -26,4 +26,4 @@ loop-reader-preserved c =
 pub returns : goal.returns
 returns c =
     let same = c.other_readers-reader-items.ensures ∙ ap (λ (x : Circuit). other_readers x.drivers c.args.sig) c.net.ensures.net in
-    readers-all c.args.p.now c.args.sig c.args.chunk c.other_readers-reader-items.result.now c.loop-reader.reader-index c.args.queues.now c.loop-reader.queues same (omega arith) c.loop-reader.invariant
+    readers-all c.args.p.now c.args.sig c.args.chunk c.args.fresh c.other_readers-reader-items.result.now c.loop-reader.reader-index c.args.queues.now c.loop-reader.queues same (omega arith) c.loop-reader.invariant

@@ -1,9 +1,9 @@
 use Rattle.std.proofs.Common.{◌++◌, map, take}
 use Rattle.netlist.specs.Wiring.{driver_at}
-use Rattle.unroll.specs.Tasks.{task_at, own_tasks}
-use Rattle.plain_close.specs.Turns.{Pushed}
+use Rattle.unroll.specs.Tasks.{task_at}
+use Rattle.plain_close.specs.Turns.{Pushed, own_woken}
 use Rattle.plain_close.proofs.turns.wake.Given as goal
 
 abbrev pub invariant-loop-reader : goal.invariant-loop-reader
 invariant-loop-reader l =
-    Pushed l.p (own_tasks l.p (driver_at l.p.circuit.drivers l.fn.sig.0) l.fn.sig l.chunk ++ map (λ r. task_at l.p r l.chunk) (take l.reader-index l.reader-items)) l.fn.queues l.queues
+    Pushed l.p (own_woken l.p (driver_at l.p.circuit.drivers l.fn.sig.0) l.fn.sig l.chunk l.fn.fresh ++ map (λ r. task_at l.p r l.chunk) (take l.reader-index l.reader-items)) l.fn.queues l.queues

@@ -1,7 +1,7 @@
-use Rattle.std.proofs.Common.{◌⊎◌, ◌≡◌, sym, subst}
+use Rattle.std.proofs.Common.{◌⊎◌, ◌≡◌, map, sym, subst}
 use Rattle.std.specs.VecDeque.{deque_items}
-use Rattle.plain_close.specs.Queues.{Waiting, Waits}
-use Rattle.plain_close.proofs.WaitingRows.{same-invariant, push-invariant, pushed-waits, pushed-kept, pushed-only, queue-within, signal-within, place-is}
+use Rattle.plain_close.specs.Queues.{Waiting, Waits, IsFirst}
+use Rattle.plain_close.proofs.WaitingRows.{same-invariant, push-invariant, pushed-waits, pushed-kept, pushed-only, pushed-first, queue-within, signal-within, place-is}
 use Rattle.plain_close.proofs.task_queues.TaskQueues.push.Goals as goal
 
 pub invariant_of-self : goal.invariant_of-self
@@ -36,3 +36,11 @@ returns-clause-only c s d h =
     (pushed-only deque_items c.self.inside.queues.items c.args.chunk c.index_mut.result.now c.push_back.new.self
     (queue-within deque_items c.self.inside.queues.items c.self.inside.signals c.args.self.now c.self.view_is c.args.chunk c.requires.chunk)
     c.index_mut.ensures.value c.args.target c.in-Ok.ensures.items s d h)
+
+pub returns-clause-first : goal.returns-clause-first
+returns-clause-first c s d h =
+    let before : IsFirst (record { signals = c.self.inside.signals; rows = map deque_items c.self.inside.queues.items }) s d = subst (λ (q : Waiting). IsFirst q s d) (sym c.self.view_is) h in
+    let after = pushed-first deque_items c.self.inside.queues.items c.args.chunk c.index_mut.result.now c.push_back.new.self
+    (queue-within deque_items c.self.inside.queues.items c.self.inside.signals c.args.self.now c.self.view_is c.args.chunk c.requires.chunk)
+    c.index_mut.ensures.value c.args.target c.in-Ok.ensures.items s d before.others before.first in
+    record { others = after.0; first = after.1 }
