@@ -1,0 +1,4 @@
+pub mod BitTable
+pub mod Drawing
+pub mod Simulation
+pub mod Frames
