@@ -32,7 +32,12 @@ use Rattle.restore_program.specs.declared.status.Status.TheVariants as statuses
 use Rattle.restore_program.specs.Reply.{text_of, status_of, too_long_line}
 use Rattle.restore_program.specs.Printing.{IsPrinted}
 use Rattle.restore_program.specs.Words.{IsCommand, Restores, Prints}
-use Rattle.restore_program.specs.Answer.{most_bytes, IsNetlistText, RefusedNetlist, netlist_too_long, bad_line, no_netlist, IsDumpText, IsDumpRefusal, KnownFrom, OnDump, dump_too_long, bad_dump, clash, table, IsNetlistOf, OnRefused, DumpAnswer, RestoreAnswer, PrintAnswer, Answer, usage, restore, print, IsPlain, Replies, IsFault, unread_reply, OnKnown, ReplyAnswer, IsAcceptedNetlist, IsNetlistFault, IsDumpFault, IsFaultOf, IsWordsFault, OnFault, Says}
+use Rattle.restore_program.specs.declared.trace.TraceRefusal.{TraceRefusal}
+use Rattle.restore_program.specs.declared.trace.TraceRefusal.TheVariants as traces
+use Rattle.restore_program.specs.Tracing.{OnTrace, unknown_name, name_twice, names_in}
+use Rattle.restore_program.specs.TraceRefusals.{IsTraceRefusal}
+use denote.Bor.{Bor}
+use Rattle.restore_program.specs.Answer.{most_bytes, IsNetlistText, RefusedNetlist, netlist_too_long, bad_line, no_netlist, IsDumpText, IsDumpRefusal, KnownFrom, OnDump, dump_too_long, bad_dump, clash, table, IsNetlistOf, OnRefused, DumpAnswer, RestoreAnswer, PrintAnswer, SimulateAnswer, IsBadKey, Traces, Answer, usage, bad_number, simulate, restore, print, IsPlain, Replies, IsFault, IsOfWords, unread_reply, OnKnown, ReplyAnswer, IsAcceptedNetlist, IsNetlistFault, IsDumpFault, IsFaultOf, IsWordsFault, OnFault, Says}
 
 -- ---- from what is known to a dump
 
@@ -42,6 +47,9 @@ on_dump c bytes d known replies.Clash spells same (cell, both) plain = clash d c
 on_dump c bytes d known (replies.Text text) spells same (no_clash, e) plain = subst (λ t. OnDump c bytes t statuses.Done) (sym e) (table d known spells same no_clash)
 on_dump c bytes d known replies.NoMemory spells same h plain = absurd plain
 on_dump c bytes d known replies.Usage spells same h plain = absurd h
+on_dump c bytes d known (replies.Number key) spells same h plain = absurd h
+on_dump c bytes d known (replies.Trace r) spells same h plain = absurd h
+on_dump c bytes d known (replies.ManyCells product) spells same h plain = absurd h
 on_dump c bytes d known (replies.TooLong part) spells same h plain = absurd h
 on_dump c bytes d known (replies.Bench r) spells same h plain = absurd h
 on_dump c bytes d known (replies.Net r) spells same h plain = absurd h
@@ -169,6 +177,9 @@ printed_now : (held : Held) (netlist : List ℕ) (c : Circuit) (reply : Reply) �
 printed_now held netlist c (replies.Text text) is printed = λ _. inr (c, is, printed, refl)
 printed_now held netlist c replies.NoMemory is printed = λ plain. absurd plain
 printed_now held netlist c replies.Usage is printed = absurd printed
+printed_now held netlist c (replies.Number key) is printed = absurd printed
+printed_now held netlist c (replies.Trace r) is printed = absurd printed
+printed_now held netlist c (replies.ManyCells product) is printed = absurd printed
 printed_now held netlist c (replies.TooLong part) is printed = absurd printed
 printed_now held netlist c (replies.Bench r) is printed = absurd printed
 printed_now held netlist c (replies.Net r) is printed = absurd printed
@@ -180,17 +191,36 @@ pub print_read : (told : Option Held) (netlist : List ℕ) (c : Circuit) (reply 
 print_read None netlist c reply is printed = tt
 print_read (Some held) netlist c reply is printed = printed_now held netlist c reply is printed
 
--- such a reply is no fault and does not speak of the words
-pub printed-plain : (c : Circuit) (reply : Reply) → IsPrinted c reply → (IsFault reply → ⊥) × (reply ≡ replies.Usage → ⊥)
-printed-plain c (replies.Text text) h = (λ f. f, λ e. cc)
-printed-plain c replies.NoMemory h = (λ f. f, λ e. cc)
+-- such a reply is no fault and not about the words
+pub printed-plain : (c : Circuit) (reply : Reply) → IsPrinted c reply → (IsFault reply → ⊥) × (IsOfWords reply → ⊥)
+printed-plain c (replies.Text text) h = (λ f. f, λ w. w)
+printed-plain c replies.NoMemory h = (λ f. f, λ w. w)
 printed-plain c replies.Usage h = absurd h
+printed-plain c (replies.Number key) h = absurd h
+printed-plain c (replies.Trace r) h = absurd h
+printed-plain c (replies.ManyCells product) h = absurd h
 printed-plain c (replies.TooLong part) h = absurd h
 printed-plain c (replies.Bench r) h = absurd h
 printed-plain c (replies.Net r) h = absurd h
 printed-plain c (replies.Dumped r) h = absurd h
 printed-plain c replies.Clash h = absurd h
 printed-plain c (replies.Fault part) h = absurd h
+
+pub simulate_refused : (told : Option Held) (netlist : List ℕ) (cycles seed : ℕ) (list : List ℕ) (reply : Reply) → IfSome told (λ held. Replies (OnRefused held netlist) reply)
+    → IfSome told (λ held. Replies (SimulateAnswer held netlist cycles seed list) reply)
+simulate_refused None netlist cycles seed list reply refused = tt
+simulate_refused (Some held) netlist cycles seed list reply refused = λ plain. inl (refused plain)
+
+pub simulate_read : (told : Option Held) (netlist : List ℕ) (cycles seed : ℕ) (list : List ℕ) (c : Circuit) (reply : Reply) → IfSome told (λ held. IsNetlistOf held netlist c)
+    → Replies (OnTrace c cycles seed list) reply → IfSome told (λ held. Replies (SimulateAnswer held netlist cycles seed list) reply)
+simulate_read None netlist cycles seed list c reply is answer = tt
+simulate_read (Some held) netlist cycles seed list c reply is answer = λ plain. inr (c, is, answer plain)
+
+-- a list of names that is refused
+pub trace_refused : (c : Circuit) (cycles seed : ℕ) (list : List ℕ) (r : TraceRefusal) → IsTraceRefusal c (names_in list) r → Replies (OnTrace c cycles seed list) (replies.Trace r)
+trace_refused c cycles seed list (traces.Unknown name) is = λ _. unknown_name name.items is
+trace_refused c cycles seed list (traces.Twice name) is = λ _. name_twice name.items is
+trace_refused c cycles seed list traces.NoMemory is = λ plain. absurd plain
 
 -- ---- what the words ask for is answered
 
@@ -203,6 +233,15 @@ pub answers_print : (told : Option Held) (words : List (List ℕ)) (netlist : Li
 answers_print None words netlist reply asked answer = tt
 answers_print (Some held) words netlist reply asked answer = λ plain. print netlist (text_of reply) (status_of reply) asked (answer plain)
 
+pub answers_simulate : (told : Option Held) (words : List (List ℕ)) (netlist list : List ℕ) (cycles seed : ℕ) (reply : Reply) → Traces words netlist cycles seed list
+    → IfSome told (λ held. Replies (SimulateAnswer held netlist cycles seed list) reply) → ReplyAnswer words told reply
+answers_simulate None words netlist list cycles seed reply asked answer = tt
+answers_simulate (Some held) words netlist list cycles seed reply asked answer = λ plain. simulate netlist list cycles seed (text_of reply) (status_of reply) asked (answer plain)
+
+pub answers_bad_number : (told : Option Held) (words : List (List ℕ)) (key : Bor (List ℕ)) → IsBadKey words key.now → ReplyAnswer words told (replies.Number key)
+answers_bad_number None words key bad = tt
+answers_bad_number (Some held) words key bad = λ _. bad_number key.now bad
+
 pub answers_refused : (told : Option Held) (words : List (List ℕ)) → ¬ IsCommand words → ReplyAnswer words told replies.Usage
 answers_refused None words other = tt
 answers_refused (Some held) words other = λ _. usage other
@@ -212,6 +251,9 @@ answers_refused (Some held) words other = λ _. usage other
 pub no_faults : (P : Part → Type 0) (reply : Reply) → (IsFault reply → ⊥) → OnFault P reply
 no_faults P (replies.Fault part) none = absurd (none tt)
 no_faults P replies.Usage none = tt
+no_faults P (replies.Number key) none = tt
+no_faults P (replies.Trace r) none = tt
+no_faults P (replies.ManyCells product) none = tt
 no_faults P (replies.TooLong part) none = tt
 no_faults P (replies.Bench r) none = tt
 no_faults P (replies.Net r) none = tt
@@ -223,6 +265,9 @@ no_faults P (replies.Text text) none = tt
 pub faults_also : (P Q : Part → Type 0) (reply : Reply) → ((part : Part) → P part → Q part) → OnFault P reply → OnFault Q reply
 faults_also P Q (replies.Fault part) also h = also part h
 faults_also P Q replies.Usage also h = tt
+faults_also P Q (replies.Number key) also h = tt
+faults_also P Q (replies.Trace r) also h = tt
+faults_also P Q (replies.ManyCells product) also h = tt
 faults_also P Q (replies.TooLong part) also h = tt
 faults_also P Q (replies.Bench r) also h = tt
 faults_also P Q (replies.Net r) also h = tt
@@ -260,6 +305,11 @@ pub says : (words : List (List ℕ)) (told : Option Held) (shaky : Option (List 
 says words told shaky (replies.Fault part) answer fault = (part, refl, fault)
 says words told shaky replies.NoMemory answer fault = refl
 says words told shaky replies.Usage answer fault = plainly words told replies.Usage answer tt
+says words told shaky (replies.Number key) answer fault = plainly words told (replies.Number key) answer tt
+says words told shaky (replies.Trace traces.NoMemory) answer fault = refl
+says words told shaky (replies.Trace (traces.Unknown name)) answer fault = plainly words told (replies.Trace (traces.Unknown name)) answer tt
+says words told shaky (replies.Trace (traces.Twice name)) answer fault = plainly words told (replies.Trace (traces.Twice name)) answer tt
+says words told shaky (replies.ManyCells product) answer fault = plainly words told (replies.ManyCells product) answer tt
 says words told shaky replies.Clash answer fault = plainly words told replies.Clash answer tt
 says words told shaky (replies.Text text) answer fault = plainly words told (replies.Text text) answer tt
 says words told shaky (replies.TooLong parts.Netlist) answer fault = plainly words told (replies.TooLong parts.Netlist) answer tt

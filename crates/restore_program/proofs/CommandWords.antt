@@ -1,16 +1,7 @@
--- When the words are those of a command.
-use Rattle.std.proofs.Common.{◌≡◌, List, ℕ, [], ◌∷◌, length, get_or, refl, sym, ap, subst, ◌∙◌, arith}
+-- The words of `restore` and of `print`.
+use Rattle.std.proofs.Common.{◌≡◌, List, ℕ, [], ◌∷◌, length, get_or, sym, ap, subst, ◌∙◌, arith}
 use Rattle.std.specs.Prelude.{codes, map}
-use Rattle.restore_program.specs.declared.words.WordRefusal.{WordRefusal}
-use Rattle.restore_program.specs.declared.words.WordRefusal.TheVariants as refusals
 use Rattle.restore_program.specs.Words.{IsRestore, Restores, IsPrint, Prints}
-
-pub three_words : (words : List (List ℕ)) → length words ≡ 3 → get_or words 0 [] ≡ codes "restore" → IsRestore words
-three_words [] e first = absurd (omega arith)
-three_words (a ∷ []) e first = absurd (omega arith)
-three_words (a ∷ b ∷ []) e first = absurd (omega arith)
-three_words (a ∷ b ∷ c ∷ []) e first = (b, c, ap (λ w. w ∷ b ∷ c ∷ []) first)
-three_words (a ∷ b ∷ c ∷ d ∷ rest) e first = absurd (omega arith)
 
 pub words_three : (words : List (List ℕ)) → IsRestore words → (length words ≡ 3) × (get_or words 0 [] ≡ codes "restore")
 words_three words (netlist, dump, e) = (ap length e, ap (λ ws. get_or ws 0 []) e)
@@ -31,17 +22,7 @@ pub asked_words : {A : Type 0} (text : A → List ℕ) (words : List A) → IsRe
 asked_words text words (first, other, e) second third b c netlist dump is is_dump =
     subst (λ t. Restores (map text words) t dump) (sym is) (subst (λ t. Restores (map text words) (text second) t) (sym is_dump) (named_words text words first other e second third b c))
 
--- there is one refusal
-pub one_refusal : (refusal : WordRefusal) → refusal ≡ refusals.Usage
-one_refusal refusals.Usage = refl
-
 -- ---- the words of `print`
-
-pub two_words : (words : List (List ℕ)) → length words ≡ 2 → get_or words 0 [] ≡ codes "print" → IsPrint words
-two_words [] e first = absurd (omega arith)
-two_words (a ∷ []) e first = absurd (omega arith)
-two_words (a ∷ b ∷ []) e first = (b, ap (λ w. w ∷ b ∷ []) first)
-two_words (a ∷ b ∷ c ∷ rest) e first = absurd (omega arith)
 
 pub words_two : (words : List (List ℕ)) → IsPrint words → (length words ≡ 2) × (get_or words 0 [] ≡ codes "print")
 words_two words (netlist, e) = (ap length e, ap (λ ws. get_or ws 0 []) e)

@@ -5,6 +5,7 @@ use Rattle.std.proofs.lemmas.Option.{same_Some}
 use mathlib.Core.Path.{fun_ext}
 use Rattle.sr_model.specs.declared.cells.Cell.{Cell}
 use Rattle.sr_model.specs.declared.cells.Lit.{Lit}
+use Rattle.sr_model.specs.declared.cells.Sig.{Sig}
 use Rattle.sr_model.specs.Declaration.{Declaration}
 use Rattle.sr_model.specs.Closure.{LitSet, HasBoth, SameLits, lit, passing}
 use Rattle.sr_outside.specs.Told.{Held}
@@ -13,7 +14,7 @@ use Rattle.bench_reader.specs.Printed.{bench_text}
 use Rattle.bench_reader.proofs.BenchLaws as texts
 use Rattle.netlist.specs.Circuit.{Circuit, IsCircuit, circuit_of}
 use Rattle.std.specs.Fmt.{decimal}
-use Rattle.std.specs.List.{All}
+use Rattle.std.specs.List.{All, slice_get}
 use Rattle.std.proofs.lemmas.List.Elements.{All-map}
 use Rattle.netlist.specs.Numbering.{IsStatement}
 use Rattle.netlist.specs.Laws.{SameRefusal}
@@ -24,16 +25,22 @@ use Rattle.netlist.specs.Checks as checks
 use Rattle.netlist.specs.declared.checks.NetRefusal.{NetRefusal}
 use Rattle.netlist.specs.declared.checks.NetRefusal.TheVariants as net
 use Rattle.dump_reader.specs.Recording.{Recording}
+use Rattle.dump_reader.specs.Grammar.{block_count}
 use Rattle.dump_reader.proofs.SameRows.{one_reading}
 use Rattle.dump_reader.proofs.RefusedOnce as dump_laws
 use Rattle.restore_program.specs.declared.status.Status.{Status}
 use Rattle.restore_program.specs.declared.status.Status.TheVariants as statuses
-use Rattle.restore_program.specs.Answer.{most_bytes, IsNetlistText, RefusedNetlist, netlist_too_long, bad_line, no_netlist, IsDumpText, KnownFrom, OnDump, dump_too_long, bad_dump, clash, table, IsNetlistOf, OnRefused, DumpAnswer, RestoreAnswer, PrintAnswer, usage, restore, print}
-use Rattle.restore_program.specs.AnswerLaws.{HasOneAnswer, AcceptedIsAnswered, PrintableIsPrinted}
-use Rattle.restore_program.specs.Reply.{bench_line, net_line, dump_line, clash_line}
+use Rattle.restore_program.specs.Answer.{most_bytes, IsNetlistText, RefusedNetlist, netlist_too_long, bad_line, no_netlist, IsDumpText, KnownFrom, OnDump, dump_too_long, bad_dump, clash, table, IsNetlistOf, OnRefused, DumpAnswer, RestoreAnswer, PrintAnswer, SimulateAnswer, IsBadKey, Traces, usage, bad_number, simulate, restore, print}
+use Rattle.restore_program.specs.AnswerLaws.{HasOneAnswer, AcceptedIsAnswered, PrintableIsPrinted, TraceableIsTraced}
+use Rattle.restore_program.specs.Reply.{bench_line, net_line, dump_line, number_line, clash_line}
 use Rattle.restore_program.specs.TableText.{table_text}
-use Rattle.restore_program.specs.Words.{Restores, Prints}
+use Rattle.restore_program.specs.Tracing.{AreNamed, OnTrace, names_in}
+use Rattle.restore_program.specs.Words.{Restores, Prints, IsShaped, Gives, simulate_rule, trace_rule}
+use Rattle.restore_program.proofs.CommandShapes.{print_command, print_or_simulate, restore_command, restore_or_simulate, simulate_command}
 use Rattle.restore_program.proofs.CommandWords.{print_or_restore}
+use Rattle.restore_program.proofs.GivenValues.{same_gift}
+use Rattle.restore_program.proofs.OneMeaning.{bad_simulate, given_trace, one_simulation, same_first, same_value, simulate_or_bad}
+use Rattle.restore_program.proofs.OneTrace.{one_on_trace, traced_done}
 
 -- no list is both too long and not
 not_longer : (bytes : List ℕ) → length bytes ≤ most_bytes → most_bytes < length bytes → ⊥
@@ -198,17 +205,81 @@ one_print held netlist text other status last (inl a) (inr (c, is, e, done)) = a
 one_print held netlist text other status last (inr (c, is, e, done)) (inl b) = absurd (never_both held netlist other last c b is)
 one_print held netlist text other status last (inr (c, is, e, done)) (inr (d, again, e_d, done_d)) = (e ∙ ap (λ x. bench_text x) (same_netlist held netlist c d is again) ∙ sym e_d, done ∙ sym done_d)
 
+one_simulate : (held : Held) (netlist : List ℕ) (cycles seed : ℕ) (list text other : List ℕ) (status last : Status) → SimulateAnswer held netlist cycles seed list text status
+    → SimulateAnswer held netlist cycles seed list other last → (text ≡ other) × (status ≡ last)
+one_simulate held netlist cycles seed list text other status last (inl a) (inl b) = one_to_refused held netlist text other status last a b
+one_simulate held netlist cycles seed list text other status last (inl a) (inr (c, is, on)) = absurd (never_both held netlist text status c a is)
+one_simulate held netlist cycles seed list text other status last (inr (c, is, on)) (inl b) = absurd (never_both held netlist other last c b is)
+one_simulate held netlist cycles seed list text other status last (inr (c, is, on)) (inr (d, again, on_again)) =
+    one_on_trace d cycles seed list text other status last (is_circuit again.0 d again.2) (subst (λ x. OnTrace x cycles seed list text status) (same_netlist held netlist c d is again) on) on_again
+
+-- ---- what is asked for is one
+
+-- the netlist, the numbers and the list of a `simulate`
+same_run : (words : List (List ℕ)) (a b : List ℕ) (cycles seed cycles' seed' : ℕ) (list list' : List ℕ) → Traces words a cycles seed list → Traces words b cycles' seed' list'
+    → (a ≡ b) × (cycles ≡ cycles') × (seed ≡ seed') × (list ≡ list')
+same_run words a b cycles seed cycles' seed' list list' (place, run, gives) (next, again, gives_again) =
+    let numbers : (cycles ≡ cycles') × (seed ≡ seed') × (place ≡ next) = one_simulation words a b cycles seed place cycles' seed' next run again in (
+      same_Some a b (sym run.is_netlist ∙ again.is_netlist),
+      numbers.0,
+      numbers.1,
+      same_value simulate_rule words trace_rule place next list list' (given_trace words run.shaped) gives gives_again,
+    )
+
+same_asked : (words : List (List ℕ)) (held : Held) (a b : List ℕ) (cycles seed cycles' seed' : ℕ) (list list' text : List ℕ) (status : Status) → Traces words a cycles seed list → Traces words b cycles' seed' list'
+    → SimulateAnswer held a cycles seed list text status → SimulateAnswer held b cycles' seed' list' text status
+same_asked words held a b cycles seed cycles' seed' list list' text status first second on =
+    let same = same_run words a b cycles seed cycles' seed' list list' first second in
+    subst (λ l. SimulateAnswer held b cycles' seed' l text status) same.3
+    (subst (λ s. SimulateAnswer held b cycles' s list text status) same.2 (subst (λ n. SimulateAnswer held b n seed list text status) same.1 (subst (λ n. SimulateAnswer held n cycles seed list text status) same.0 on)))
+
+-- the key of the first bad number
+same_key : (words : List (List ℕ)) (key other : List ℕ) → IsBadKey words key → IsBadKey words other → key ≡ other
+same_key words key other a b =
+    let place : a.place ≡ b.place = same_first simulate_rule words a.place b.place (bad_simulate words a.place a.bad).1 (bad_simulate words b.place b.bad).1 in
+    let word : a.word ≡ b.word = same_Some a.word b.word (sym a.at ∙ ap (slice_get words) place ∙ b.at) in
+    (same_gift b.word key a.value other b.value (subst (λ w. Gives w key a.value) word a.gives) b.gives).0
+
+-- ---- words ask for one thing
+
+-- words with a bad number are those of a `simulate`
+bad_shape : (words : List (List ℕ)) (key : List ℕ) → IsBadKey words key → IsShaped simulate_rule words
+bad_shape words key bad = (bad_simulate words bad.place bad.bad).0
+
+run_shape : (words : List (List ℕ)) (netlist : List ℕ) (cycles seed : ℕ) (list : List ℕ) → Traces words netlist cycles seed list → IsShaped simulate_rule words
+run_shape words netlist cycles seed list (place, run, gives) = run.shaped
+
+run_or_bad : (words : List (List ℕ)) (netlist : List ℕ) (cycles seed : ℕ) (list key : List ℕ) → Traces words netlist cycles seed list → ¬ IsBadKey words key
+run_or_bad words netlist cycles seed list key (place, run, gives) bad = simulate_or_bad words netlist cycles seed place bad.place run (bad_simulate words bad.place bad.bad).1.0
+
 pub one_answer : HasOneAnswer
 one_answer words held text other status last (usage refused) (usage _) = (refl, refl)
-one_answer words held text other status last (usage refused) (restore netlist dump _ _ asks _) = absurd (refused (inl (netlist, dump, asks)))
-one_answer words held text other status last (usage refused) (print netlist _ _ asks _) = absurd (refused (inr (netlist, asks)))
-one_answer words held text other status last (restore netlist dump _ _ asks _) (usage refused) = absurd (refused (inl (netlist, dump, asks)))
-one_answer words held text other status last (print netlist _ _ asks _) (usage refused) = absurd (refused (inr (netlist, asks)))
-one_answer words held text other status last (restore netlist dump _ _ asks _) (print own _ _ own_asks _) = absurd (print_or_restore words (own, own_asks) (netlist, dump, asks))
-one_answer words held text other status last (print own _ _ own_asks _) (restore netlist dump _ _ asks _) = absurd (print_or_restore words (own, own_asks) (netlist, dump, asks))
+one_answer words held text other status last (usage refused) (bad_number key bad) = absurd (refused (simulate_command words (bad_shape words key bad)))
+one_answer words held text other status last (usage refused) (simulate n l c s _ _ asks _) = absurd (refused (simulate_command words (run_shape words n c s l asks)))
+one_answer words held text other status last (usage refused) (restore netlist dump _ _ asks _) = absurd (refused (restore_command words (netlist, dump, asks)))
+one_answer words held text other status last (usage refused) (print netlist _ _ asks _) = absurd (refused (print_command words (netlist, asks)))
+one_answer words held text other status last (bad_number key bad) (usage refused) = absurd (refused (simulate_command words (bad_shape words key bad)))
+one_answer words held text other status last (bad_number key bad) (bad_number own own_bad) = (ap number_line (same_key words key own bad own_bad), refl)
+one_answer words held text other status last (bad_number key bad) (simulate n l c s _ _ asks _) = absurd (run_or_bad words n c s l key asks bad)
+one_answer words held text other status last (bad_number key bad) (restore netlist dump _ _ asks _) = absurd (restore_or_simulate words (netlist, dump, asks) (bad_shape words key bad))
+one_answer words held text other status last (bad_number key bad) (print netlist _ _ asks _) = absurd (print_or_simulate words (netlist, asks) (bad_shape words key bad))
+one_answer words held text other status last (simulate n l c s _ _ asks _) (usage refused) = absurd (refused (simulate_command words (run_shape words n c s l asks)))
+one_answer words held text other status last (simulate n l c s _ _ asks _) (bad_number key bad) = absurd (run_or_bad words n c s l key asks bad)
+one_answer words held text other status last (simulate n l c s _ _ asks on) (simulate own own_list cycles seed _ _ own_asks own_on) =
+    one_simulate held own cycles seed own_list text other status last (same_asked words held n own c s cycles seed l own_list text status asks own_asks on) own_on
+one_answer words held text other status last (simulate n l c s _ _ asks _) (restore netlist dump _ _ own_asks _) = absurd (restore_or_simulate words (netlist, dump, own_asks) (run_shape words n c s l asks))
+one_answer words held text other status last (simulate n l c s _ _ asks _) (print netlist _ _ own_asks _) = absurd (print_or_simulate words (netlist, own_asks) (run_shape words n c s l asks))
+one_answer words held text other status last (restore netlist dump _ _ asks _) (usage refused) = absurd (refused (restore_command words (netlist, dump, asks)))
+one_answer words held text other status last (restore netlist dump _ _ asks _) (bad_number key bad) = absurd (restore_or_simulate words (netlist, dump, asks) (bad_shape words key bad))
+one_answer words held text other status last (restore netlist dump _ _ asks _) (simulate n l c s _ _ own_asks _) = absurd (restore_or_simulate words (netlist, dump, asks) (run_shape words n c s l own_asks))
 one_answer words held text other status last (restore netlist dump _ _ asks on) (restore own own_dump _ _ own_asks own_on) =
     let same : (netlist ≡ own) × (dump ≡ own_dump) = same_names words netlist dump own own_dump asks own_asks in
     one_restore held own own_dump text other status last (subst (λ n. RestoreAnswer held n own_dump text status) same.0 (subst (λ d. RestoreAnswer held netlist d text status) same.1 on)) own_on
+one_answer words held text other status last (restore netlist dump _ _ asks _) (print own _ _ own_asks _) = absurd (print_or_restore words (own, own_asks) (netlist, dump, asks))
+one_answer words held text other status last (print netlist _ _ asks _) (usage refused) = absurd (refused (print_command words (netlist, asks)))
+one_answer words held text other status last (print netlist _ _ asks _) (bad_number key bad) = absurd (print_or_simulate words (netlist, asks) (bad_shape words key bad))
+one_answer words held text other status last (print netlist _ _ asks _) (simulate n l c s _ _ own_asks _) = absurd (print_or_simulate words (netlist, asks) (run_shape words n c s l own_asks))
+one_answer words held text other status last (print own _ _ own_asks _) (restore netlist dump _ _ asks _) = absurd (print_or_restore words (own, own_asks) (netlist, dump, asks))
 one_answer words held text other status last (print netlist _ _ asks on) (print own _ _ own_asks own_on) =
     one_print held own text other status last (subst (λ n. PrintAnswer held n text status) (same_name words netlist own asks own_asks) on) own_on
 
@@ -235,7 +306,9 @@ restore_answered held netlist dump dump_bytes c d text status is there read (inr
 
 pub accepted_is_answered : AcceptedIsAnswered
 unfolding IsTableOrClash
-accepted_is_answered words held c d a text status (usage refused) = absurd (refused (inl (a.netlist, a.dump, a.asked)))
+accepted_is_answered words held c d a text status (usage refused) = absurd (refused (restore_command words (a.netlist, a.dump, a.asked)))
+accepted_is_answered words held c d a text status (bad_number key bad) = absurd (restore_or_simulate words (a.netlist, a.dump, a.asked) (bad_shape words key bad))
+accepted_is_answered words held c d a text status (simulate n l cycles s _ _ asks _) = absurd (restore_or_simulate words (a.netlist, a.dump, a.asked) (run_shape words n cycles s l asks))
 accepted_is_answered words held c d a text status (print own _ _ own_asks _) = absurd (print_or_restore words (own, own_asks) (a.netlist, a.dump, a.asked))
 accepted_is_answered words held c d a text status (restore netlist dump _ _ asks on) =
     let same : (netlist ≡ a.netlist) × (dump ≡ a.dump) = same_names words netlist dump a.netlist a.dump asks a.asked in
@@ -247,7 +320,23 @@ printed_done held netlist c text status is (inl refused) = absurd (never_both he
 printed_done held netlist c text status is (inr (d, again, e, done)) = done
 
 pub printable_is_printed : PrintableIsPrinted
-printable_is_printed words held (netlist, c, asked, is) text status (usage refused) = absurd (refused (inr (netlist, asked)))
+printable_is_printed words held (netlist, c, asked, is) text status (usage refused) = absurd (refused (print_command words (netlist, asked)))
+printable_is_printed words held (netlist, c, asked, is) text status (bad_number key bad) = absurd (print_or_simulate words (netlist, asked) (bad_shape words key bad))
+printable_is_printed words held (netlist, c, asked, is) text status (simulate n l cycles s _ _ asks _) = absurd (print_or_simulate words (netlist, asked) (run_shape words n cycles s l asks))
 printable_is_printed words held (netlist, c, asked, is) text status (restore own dump _ _ own_asks on) = absurd (print_or_restore words (netlist, asked) (own, dump, own_asks))
 printable_is_printed words held (netlist, c, asked, is) text status (print own _ _ own_asks on) =
     printed_done held netlist c text status is (subst (λ n. PrintAnswer held n text status) (same_name words own netlist own_asks asked) on)
+
+simulated_done : (held : Held) (netlist : List ℕ) (cycles seed : ℕ) (list : List ℕ) (c : Circuit) (sigs : List Sig) (text : List ℕ) (status : Status) → IsNetlistOf held netlist c → AreNamed c (names_in list) sigs
+    → block_count (length c.drivers) cycles ≤ 4194304 → SimulateAnswer held netlist cycles seed list text status → status ≡ statuses.Done
+simulated_done held netlist cycles seed list c sigs text status is named few (inl refused) = absurd (never_both held netlist text status c refused is)
+simulated_done held netlist cycles seed list c sigs text status is named few (inr (d, again, on)) =
+    traced_done c cycles seed list text status sigs named few (subst (λ x. OnTrace x cycles seed list text status) (same_netlist held netlist d c again is) on)
+
+pub traceable_is_traced : TraceableIsTraced
+traceable_is_traced words held t text status (usage refused) = absurd (refused (simulate_command words (run_shape words t.netlist t.cycles t.seed t.list t.asked)))
+traceable_is_traced words held t text status (bad_number key bad) = absurd (run_or_bad words t.netlist t.cycles t.seed t.list key t.asked bad)
+traceable_is_traced words held t text status (restore own dump _ _ own_asks on) = absurd (restore_or_simulate words (own, dump, own_asks) (run_shape words t.netlist t.cycles t.seed t.list t.asked))
+traceable_is_traced words held t text status (print own _ _ own_asks on) = absurd (print_or_simulate words (own, own_asks) (run_shape words t.netlist t.cycles t.seed t.list t.asked))
+traceable_is_traced words held t text status (simulate n l cycles seed _ _ asks on) =
+    simulated_done held t.netlist t.cycles t.seed t.list t.c t.sigs text status t.netlist_held t.named t.few (same_asked words held n t.netlist cycles seed t.cycles t.seed l t.list text status asks t.asked on)

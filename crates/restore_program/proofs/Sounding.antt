@@ -15,19 +15,22 @@ use Rattle.sr_model.proofs.ClosureLaws.{sound, no_execution_has_both}
 use Rattle.sr_outside.specs.Told.{Held}
 use Rattle.netlist.specs.Circuit.{Circuit, unrolled_over}
 use Rattle.netlist.specs.Wiring.{flip_flops}
+use Rattle.dump_reader.specs.Grammar.{block_count}
 use Rattle.dump_reader.specs.declared.refusal.DumpRefusal.{DumpRefusal}
 use Rattle.dump_reader.specs.declared.refusal.DumpRefusal.TheVariants as dumps
 use Rattle.restore_program.specs.declared.status.Status.{Status}
 use Rattle.restore_program.specs.declared.status.Status.TheVariants as statuses
 use Rattle.restore_program.specs.declared.reply.Part.TheVariants as parts
 use Rattle.restore_program.specs.declared.reply.Reply.{Reply}
-use Rattle.restore_program.specs.Reply.{clash_line, too_long_line, dump_line, text_of, status_of}
+use Rattle.restore_program.specs.Reply.{clash_line, too_long_line, dump_line, many_cells_line, text_of, status_of}
 use Rattle.restore_program.specs.TableText.{known_bit, known_row}
 use Rattle.restore_program.specs.Words.{Restores, IsRestore}
-use Rattle.restore_program.specs.Answer.{IsPlain, ReplyAnswer, Answer, usage, restore, print, RefusedNetlist, netlist_too_long, bad_line, no_netlist, PrintAnswer, IsNetlistOf, OnDump, dump_too_long, bad_dump, clash, table}
-use Rattle.restore_program.specs.Sound.{IsAccepted, IsPrintable, IsSoundTable, NoneMatches, Finishes}
+use Rattle.restore_program.specs.Answer.{IsPlain, ReplyAnswer, Answer, usage, bad_number, simulate, restore, print, SimulateAnswer, RefusedNetlist, netlist_too_long, bad_line, no_netlist, PrintAnswer, IsNetlistOf, OnDump, dump_too_long, bad_dump, clash, table}
+use Rattle.restore_program.specs.Sound.{IsAccepted, IsPrintable, IsTraceable, IsSoundTable, NoneMatches, Finishes}
+use Rattle.restore_program.specs.Tracing.{OnTrace, unknown_name, name_twice, many_cells, traced}
+use Rattle.restore_program.proofs.CommandShapes.{restore_or_simulate}
 use Rattle.restore_program.proofs.CommandWords.{print_or_restore}
-use Rattle.restore_program.proofs.OneAnswer.{accepted_is_answered, printable_is_printed}
+use Rattle.restore_program.proofs.OneAnswer.{accepted_is_answered, printable_is_printed, traceable_is_traced}
 
 -- ---- the bits of a table are known
 
@@ -120,6 +123,8 @@ sound_refused bytes text status (no_netlist stated r short some spells is) e = c
 
 sound_answer : (words : List (List ℕ)) (held : Held) (text : List ℕ) (status : Status) → IsRestore words → Answer words held text status → status ≡ statuses.Done → IsSoundTable words text held
 sound_answer words held text status asks (usage other) e = absurd cc
+sound_answer words held text status asks (bad_number key bad) e = absurd cc
+sound_answer words held text status asks (simulate n l c s t k (place, run, gives) on) e = absurd (restore_or_simulate words asks run.shaped)
 sound_answer words held text status asks (print netlist t s asked on) e = absurd (print_or_restore words (netlist, asked) asks)
 sound_answer words held text status asks (restore netlist dump t s asked (inl (bytes, there, refused))) e = absurd (sound_refused bytes t s refused e)
 sound_answer words held text status asks (restore netlist dump t s asked (inr (c, is, (bytes, there, on)))) e = sound_dump words held netlist dump bytes c t s asked is there on e
@@ -163,8 +168,20 @@ clash_print : (held : Held) (netlist text : List ℕ) (status : Status) → Prin
 clash_print held netlist text status (inl (bytes, there, refused)) e = clash_refused bytes text status refused e
 clash_print held netlist text status (inr (c, is, t, done)) e = let both = sym done ∙ e in cc
 
+clash_trace : (c : Circuit) (cycles seed : ℕ) (list text : List ℕ) (status : Status) → OnTrace c cycles seed list text status → status ≡ statuses.Dump → text ≡ clash_line → ⊥
+clash_trace c cycles seed list text status (unknown_name name unknown) s e = cc
+clash_trace c cycles seed list text status (name_twice name twice) s e = cc
+clash_trace c cycles seed list text status (many_cells sigs named many) s e = apart 10 (many_cells_line (block_count (length c.drivers) cycles)) clash_line refl e
+clash_trace c cycles seed list text status (traced sigs t named few traces) s e = cc
+
+clash_simulate : (held : Held) (netlist : List ℕ) (cycles seed : ℕ) (list text : List ℕ) (status : Status) → SimulateAnswer held netlist cycles seed list text status → status ≡ statuses.Dump → text ≡ clash_line → ⊥
+clash_simulate held netlist cycles seed list text status (inl (bytes, there, refused)) s e = clash_refused bytes text status refused s
+clash_simulate held netlist cycles seed list text status (inr (c, is, on)) s e = clash_trace c cycles seed list text status on s e
+
 clash_answer : (words : List (List ℕ)) (held : Held) (text : List ℕ) (status : Status) → Answer words held text status → status ≡ statuses.Dump → text ≡ clash_line → NoneMatches words held
 clash_answer words held text status (usage other) s e = absurd cc
+clash_answer words held text status (bad_number key bad) s e = absurd cc
+clash_answer words held text status (simulate netlist l c seed t k asked on) s e = absurd (clash_simulate held netlist c seed l t k on s e)
 clash_answer words held text status (print netlist t k asked on) s e = absurd (clash_print held netlist t k on s)
 clash_answer words held text status (restore netlist dump t k asked (inl (bytes, there, refused))) s e = absurd (clash_refused bytes t k refused s)
 clash_answer words held text status (restore netlist dump t k asked (inr (c, is, (bytes, there, on)))) s e = clash_dump words held netlist dump bytes c t k asked is there on s e
@@ -211,3 +228,7 @@ finishes P words (Some held) reply answer k = λ (c, d, a). ends P (status_of re
 pub prints : (words : List (List ℕ)) (told : Option Held) (reply : Reply) → ReplyAnswer words told reply → IfSome told (λ held. IsPrintable words held → IsPlain (status_of reply) → status_of reply ≡ statuses.Done)
 prints words None reply answer = tt
 prints words (Some held) reply answer = λ printable plain. printable_is_printed words held printable (text_of reply) (status_of reply) (answer plain)
+
+pub traces : (words : List (List ℕ)) (told : Option Held) (reply : Reply) → ReplyAnswer words told reply → IfSome told (λ held. IsTraceable words held → IsPlain (status_of reply) → status_of reply ≡ statuses.Done)
+traces words None reply answer = tt
+traces words (Some held) reply answer = λ traceable plain. traceable_is_traced words held traceable (text_of reply) (status_of reply) (answer plain)

@@ -1,5 +1,6 @@
 -- What a run is to write, and how it is to end, by the words and the bytes that the inputs hold.
 use Rattle.std.specs.Prelude.{ℕ, ◌≡◌, ◌≢◌, ◌<◌, ◌≤◌, ◌⊎◌, ⊤, Bool, List, length, Option, Some, IfSome}
+use Rattle.std.specs.List.{slice_get}
 use Rattle.sr_model.specs.declared.cells.Cell.{Cell}
 use Rattle.sr_model.specs.declared.cells.Lit.{Lit}
 use Rattle.sr_model.specs.Declaration.{Declaration}
@@ -28,9 +29,10 @@ use Rattle.restore_program.specs.declared.reply.Reply.{Reply}
 use Rattle.restore_program.specs.declared.reply.Reply.TheVariants as replies
 use Rattle.restore_program.specs.declared.status.Status.{Status}
 use Rattle.restore_program.specs.declared.status.Status.TheVariants as statuses
-use Rattle.restore_program.specs.Reply.{usage_line, too_long_line, bench_line, net_line, dump_line, clash_line, fault_line, no_memory_line, text_of, status_of}
+use Rattle.restore_program.specs.Reply.{usage_line, number_line, too_long_line, bench_line, net_line, dump_line, clash_line, fault_line, no_memory_line, text_of, status_of}
 use Rattle.restore_program.specs.TableText.{table_text}
-use Rattle.restore_program.specs.Words.{Restores, Prints, IsCommand}
+use Rattle.restore_program.specs.Words.{Restores, Prints, Simulates, Gives, GivesAt, simulate_rule, trace_rule, IsBadNumber, IsCommand}
+use Rattle.restore_program.specs.Tracing.{OnTrace}
 
 -- the most bytes of a netlist or a dump
 abbrev pub most_bytes : ℕ
@@ -99,9 +101,30 @@ RestoreAnswer held netlist dump text status = OnRefused held netlist text status
 abbrev pub PrintAnswer : Held → List ℕ → List ℕ → Status → Type 0
 PrintAnswer held netlist text status = OnRefused held netlist text status ⊎ ((c : Circuit) × IsNetlistOf held netlist c × (text ≡ bench_text c) × (status ≡ statuses.Done))
 
+-- on words that ask for a run of this netlist over so many cycles from a seed, and for a trace of the signals of this list
+abbrev pub SimulateAnswer : Held → List ℕ → ℕ → ℕ → List ℕ → List ℕ → Status → Type 0
+SimulateAnswer held netlist cycles seed list text status =
+    OnRefused held netlist text status ⊎ ((c : Circuit) × IsNetlistOf held netlist c × OnTrace c cycles seed list text status)
+
+-- the key of the first bad number
+pub record IsBadKey (words : List (List ℕ)) (key : List ℕ) : Type 0 where
+  pub place : ℕ
+  pub bad : IsBadNumber words place
+  pub word : List ℕ
+  pub at : slice_get words place ≡ Some word
+  pub value : List ℕ
+  pub gives : Gives word key value
+
+-- a run of this netlist is asked for, over so many cycles from this seed, and a trace of the signals of this list
+abbrev pub Traces : List (List ℕ) → List ℕ → ℕ → ℕ → List ℕ → Type 0
+Traces words netlist cycles seed list = (place : ℕ) × Simulates words netlist cycles seed place × GivesAt simulate_rule words place trace_rule list
+
 -- on all words; there is none where an input that is come to is not held
 pub data Answer (words : List (List ℕ)) (held : Held) : List ℕ → Status → Type 0 where
   usage : ¬ IsCommand words → Answer words held usage_line statuses.Words
+  bad_number : (key : List ℕ) → IsBadKey words key → Answer words held (number_line key) statuses.Words
+  simulate : (netlist list : List ℕ) (cycles seed : ℕ) (text : List ℕ) (status : Status) → Traces words netlist cycles seed list → SimulateAnswer held netlist cycles seed list text status
+      → Answer words held text status
   restore : (netlist dump text : List ℕ) (status : Status) → Restores words netlist dump → RestoreAnswer held netlist dump text status → Answer words held text status
   print : (netlist text : List ℕ) (status : Status) → Prints words netlist → PrintAnswer held netlist text status → Answer words held text status
 
@@ -117,6 +140,17 @@ IsPlain _ = ⊤
 -- the reply's text and status are an answer, unless an input was not read or memory was refused
 abbrev pub Replies : (List ℕ → Status → Type 0) → Reply → Type 0
 Replies P reply = IsPlain (status_of reply) → P (text_of reply) (status_of reply)
+
+-- the reply is about the words
+abbrev pub IsOfWords : Reply → Type 0
+IsOfWords replies.Usage = ⊤
+IsOfWords (replies.Number key) = ⊤
+IsOfWords (replies.Trace refusal) = ⊤
+IsOfWords _ = ⊥
+
+-- no input is started on these words
+abbrev pub AreRefused : List (List ℕ) → Type 0
+AreRefused words = ¬ IsCommand words ⊎ ((place : ℕ) × IsBadNumber words place)
 
 abbrev pub IsFault : Reply → Type 0
 IsFault (replies.Fault part) = ⊤
@@ -141,11 +175,15 @@ ReplyAnswer words told reply = IfSome told (λ held. Replies (Answer words held)
 
 -- ---- faults
 
+-- the words ask for this netlist and for no dump
+abbrev pub AsksNetlist : List (List ℕ) → List ℕ → Type 0
+AsksNetlist words netlist = Prints words netlist ⊎ ((cycles seed trace : ℕ) × Simulates words netlist cycles seed trace)
+
 -- it is told that the files that the words name are held and that no call on them is to fail
 abbrev pub AreSteady : Option Held → Option (List ℕ → Bool) → List (List ℕ) → Type 0
 AreSteady told shaky words =
     ((netlist dump : List ℕ) → Restores words netlist dump → IsSteady told shaky netlist × IsSteady told shaky dump)
-    × ((netlist : List ℕ) → Prints words netlist → IsSteady told shaky netlist)
+    × ((netlist : List ℕ) → AsksNetlist words netlist → IsSteady told shaky netlist)
 
 -- the netlist of this name is held and accepted
 abbrev pub IsAcceptedNetlist : List ℕ → Held → Type 0
@@ -169,7 +207,7 @@ IsFaultOf told shaky netlist dump parts.Dump = (¬ IsSteady told shaky dump) × 
 abbrev pub IsWordsFault : List (List ℕ) → Option Held → Option (List ℕ → Bool) → Part → Type 0
 IsWordsFault words told shaky part =
     ((netlist : List ℕ) × (dump : List ℕ) × Restores words netlist dump × IsFaultOf told shaky netlist dump part)
-    ⊎ ((netlist : List ℕ) × Prints words netlist × IsNetlistFault told shaky netlist part)
+    ⊎ ((netlist : List ℕ) × AsksNetlist words netlist × IsNetlistFault told shaky netlist part)
 
 -- where the reply says that a part was not read, this holds of the part
 abbrev pub OnFault : (Part → Type 0) → Reply → Type 0

@@ -7,7 +7,7 @@ use Rattle.restore_program.specs.declared.status.Status.{Status}
 use Rattle.restore_program.specs.declared.status.Status.TheVariants as statuses
 use Rattle.restore_program.specs.Answer.{Answer}
 use Rattle.restore_program.specs.Reply.{clash_line}
-use Rattle.restore_program.specs.Sound.{Accepts, IsPrintable}
+use Rattle.restore_program.specs.Sound.{Accepts, IsPrintable, IsTraceable}
 
 -- there is one answer at most
 abbrev pub HasOneAnswer : Type 0
@@ -22,3 +22,7 @@ AcceptedIsAnswered =
 -- where a netlist is accepted, its text is the answer to `print`
 abbrev pub PrintableIsPrinted : Type 0
 PrintableIsPrinted = (words : List (List ℕ)) (held : Held) → IsPrintable words held → (text : List ℕ) (status : Status) → Answer words held text status → status ≡ statuses.Done
+
+-- where the trace of a run can be had, its text is the answer to `simulate`
+abbrev pub TraceableIsTraced : Type 0
+TraceableIsTraced = (words : List (List ℕ)) (held : Held) → IsTraceable words held → (text : List ℕ) (status : Status) → Answer words held text status → status ≡ statuses.Done

@@ -6,5 +6,9 @@ pub mod Sound
 pub mod Status
 pub mod TableCells
 pub mod TableText
+pub mod WordMeaning
+pub mod WordRules
 pub mod Words
 pub mod Writes
+pub mod Tracing
+pub mod TraceRefusals

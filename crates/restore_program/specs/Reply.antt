@@ -9,6 +9,8 @@ use Rattle.netlist.specs.declared.checks.NetRefusal.{NetRefusal}
 use Rattle.netlist.specs.declared.checks.NetRefusal.TheVariants as net
 use Rattle.dump_reader.specs.declared.refusal.DumpRefusal.{DumpRefusal}
 use Rattle.dump_reader.specs.declared.refusal.DumpRefusal.TheVariants as dumps
+use Rattle.restore_program.specs.declared.trace.TraceRefusal.{TraceRefusal}
+use Rattle.restore_program.specs.declared.trace.TraceRefusal.TheVariants as traces
 use Rattle.restore_program.specs.declared.reply.Part.{Part}
 use Rattle.restore_program.specs.declared.reply.Part.TheVariants as parts
 use Rattle.restore_program.specs.declared.reply.Reply.{Reply}
@@ -65,6 +67,25 @@ dump_line dumps.NoMemory = no_memory_line
 abbrev pub clash_line : List ℕ
 clash_line = codes "srestore: dump: 28 not built yet\n"
 
+-- what is written of a number that its key may not have
+abbrev pub number_line : List ℕ → List ℕ
+number_line key = codes "srestore: words: 23 number " ++ key ++ codes "\n"
+
+-- what is written of a list of names: that one is of no signal, that one stands twice, and that the cells are too many
+abbrev pub unknown_trace_line : List ℕ → List ℕ
+unknown_trace_line name = codes "srestore: words: 26 unknown trace " ++ name ++ codes "\n"
+
+abbrev pub trace_twice_line : List ℕ → List ℕ
+trace_twice_line name = codes "srestore: words: 27 trace twice " ++ name ++ codes "\n"
+
+abbrev pub many_cells_line : ℕ → List ℕ
+many_cells_line product = codes "srestore: words: 17 too many cells " ++ decimal product ++ codes "\n"
+
+abbrev pub trace_line : TraceRefusal → List ℕ
+trace_line (traces.Unknown name) = unknown_trace_line name.items
+trace_line (traces.Twice name) = trace_twice_line name.items
+trace_line traces.NoMemory = no_memory_line
+
 abbrev pub fault_line : Part → List ℕ
 fault_line part = codes "srestore: read fault " ++ name_of part ++ codes "\n"
 
@@ -74,6 +95,9 @@ text_of (replies.TooLong part) = too_long_line part
 text_of (replies.Bench refusal) = bench_line refusal
 text_of (replies.Net refusal) = net_line refusal
 text_of (replies.Dumped refusal) = dump_line refusal
+text_of (replies.Number key) = number_line key.now
+text_of (replies.Trace refusal) = trace_line refusal
+text_of (replies.ManyCells product) = many_cells_line product
 text_of replies.Clash = clash_line
 text_of (replies.Fault part) = fault_line part
 text_of replies.NoMemory = no_memory_line
@@ -96,12 +120,19 @@ abbrev pub dump_status : DumpRefusal → Status
 dump_status dumps.NoMemory = statuses.NoMemory
 dump_status _ = statuses.Dump
 
+abbrev pub trace_status : TraceRefusal → Status
+trace_status traces.NoMemory = statuses.NoMemory
+trace_status _ = statuses.Words
+
 abbrev pub status_of : Reply → Status
 status_of replies.Usage = statuses.Words
 status_of (replies.TooLong part) = part_status part
 status_of (replies.Bench refusal) = bench_status refusal
 status_of (replies.Net refusal) = net_status refusal
 status_of (replies.Dumped refusal) = dump_status refusal
+status_of (replies.Number key) = statuses.Words
+status_of (replies.Trace refusal) = trace_status refusal
+status_of (replies.ManyCells product) = statuses.Dump
 status_of replies.Clash = statuses.Dump
 status_of (replies.Fault part) = statuses.ReadFault
 status_of replies.NoMemory = statuses.NoMemory

@@ -1,14 +1,17 @@
 -- What the text of a run says of the executions that match the dump.
-use Rattle.std.specs.Prelude.{ℕ, ◌≡◌, ⊤, List, Some}
+use Rattle.std.specs.Prelude.{ℕ, ◌≡◌, ◌≤◌, ⊤, List, length, Some}
+use Rattle.sr_model.specs.declared.cells.Sig.{Sig}
 use Rattle.sr_model.specs.Netlist.{Valuation, IsExecution}
 use Rattle.sr_model.specs.Dump.{Row, Matches}
 use Rattle.sr_outside.specs.Told.{Held}
 use Rattle.netlist.specs.Circuit.{Circuit, unrolled_over}
 use Rattle.dump_reader.specs.Recording.{Recording}
+use Rattle.dump_reader.specs.Grammar.{block_count}
 use Rattle.dump_reader.specs.Print.{printed}
 use Rattle.restore_program.specs.declared.status.Status.{Status}
 use Rattle.restore_program.specs.declared.status.Status.TheVariants as statuses
-use Rattle.restore_program.specs.Answer.{IsNetlistOf, IsDumpText}
+use Rattle.restore_program.specs.Answer.{IsNetlistOf, IsDumpText, Traces}
+use Rattle.restore_program.specs.Tracing.{AreNamed, names_in}
 use Rattle.restore_program.specs.Words.{Restores, Prints}
 
 -- the words ask for a netlist and a dump that are held and accepted, with this recording
@@ -27,6 +30,19 @@ IsAccepted words held = (c : Circuit) × (d : Recording) × Accepts words held c
 -- the words ask for the text of a netlist that is held and accepted
 abbrev pub IsPrintable : List (List ℕ) → Held → Type 0
 IsPrintable words held = (netlist : List ℕ) × (c : Circuit) × Prints words netlist × IsNetlistOf held netlist c
+
+-- the words ask for a trace of a run of a netlist that is held and accepted, and the names are those of signals, each once, and the cells are not too many
+pub record IsTraceable (words : List (List ℕ)) (held : Held) : Type 0 where
+  pub netlist : List ℕ
+  pub list : List ℕ
+  pub cycles : ℕ
+  pub seed : ℕ
+  pub asked : Traces words netlist cycles seed list
+  pub c : Circuit
+  pub netlist_held : IsNetlistOf held netlist c
+  pub sigs : List Sig
+  pub named : AreNamed c (names_in list) sigs
+  pub few : block_count (length c.drivers) cycles ≤ 4194304
 
 -- the text is printed rows of bits, and each execution that matches the dump has each bit of them
 abbrev pub IsSoundTable : List (List ℕ) → List ℕ → Held → Type 0

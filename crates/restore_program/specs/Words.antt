@@ -1,5 +1,126 @@
 -- What the words of the command line ask for.
-use Rattle.std.specs.Prelude.{ℕ, ◌≡◌, ◌⊎◌, List, [], ◌∷◌, codes}
+use Rattle.std.specs.Prelude.{ℕ, ◌≡◌, ◌≢◌, ◌+◌, ◌-◌, ◌^◌, ◌<◌, ◌≤◌, ◌==◌, ⊤, Bool, true, List, [], ◌∷◌, ◌++◌, length, drop, codes, All, AllPairs, Any, IsTrue, Some}
+use Rattle.std.specs.List.{slice_get, slice_split}
+use Rattle.std.specs.Fmt.{decimal}
+
+-- ---- the table of the commands
+
+-- what a key takes: a number from least to most, or names that are parted by commas
+pub data Takes : Type 0 where
+  number : (least most : ℕ) → Takes
+  names : Takes
+
+-- a key, whether it has to be given, and what it takes
+pub record KeyRule : Type 0 where
+  pub name : List ℕ
+  pub required : Bool
+  pub takes : Takes
+
+-- a command, how many files follow it, and the keys of the words behind them
+pub record CommandRule : Type 0 where
+  pub name : List ℕ
+  pub files : ℕ
+  pub keys : List KeyRule
+
+abbrev pub restore_rule : CommandRule
+restore_rule = record { name = codes "restore"; files = 2; keys = [] }
+
+abbrev pub cycles_rule : KeyRule
+cycles_rule = record { name = codes "cycles"; required = true; takes = number 1 8192 }
+
+abbrev pub seed_rule : KeyRule
+seed_rule = record { name = codes "seed"; required = true; takes = number 0 (2 ^ 64 - 1) }
+
+abbrev pub trace_rule : KeyRule
+trace_rule = record { name = codes "trace"; required = true; takes = names }
+
+abbrev pub simulate_rule : CommandRule
+simulate_rule = record { name = codes "simulate"; files = 1; keys = cycles_rule ∷ seed_rule ∷ trace_rule ∷ [] }
+
+abbrev pub print_rule : CommandRule
+print_rule = record { name = codes "print"; files = 1; keys = [] }
+
+abbrev pub command_rules : List CommandRule
+command_rules = restore_rule ∷ simulate_rule ∷ print_rule ∷ []
+
+-- ---- words
+
+-- the word is `key=value`, and the key ends at its first `=`
+pub record Gives (word key value : List ℕ) : Type 0 where
+  pub spelled : word ≡ key ++ 61 ∷ value
+  pub first : All (λ b. b ≢ 61) key
+
+-- the word gives the key a value
+abbrev pub IsFor : KeyRule → List ℕ → Type 0
+IsFor key word = (value : List ℕ) × Gives word key.name value
+
+-- parted at its commas, a list of names has no empty name; any text has the shape of a number
+abbrev pub HasShape : Takes → List ℕ → Type 0
+HasShape (number least most) value = ⊤
+HasShape names value = All (λ item. item ≢ []) (slice_split (λ b. b == 44) value)
+
+-- the word gives the key a value of its shape
+abbrev pub Suits : List ℕ → KeyRule → Type 0
+Suits word key = (value : List ℕ) × Gives word key.name value × HasShape key.takes value
+
+-- ---- the shape of a command
+
+-- these words give the key at most once, and once where it has to be given
+pub record IsGivenRight (words : List (List ℕ)) (key : KeyRule) : Type 0 where
+  pub once : AllPairs (λ first second. ¬ (IsFor key first × IsFor key second)) words
+  pub given : IsTrue key.required → Any (IsFor key) words
+
+-- the words behind the files
+abbrev pub later : CommandRule → List (List ℕ) → List (List ℕ)
+later rule words = drop (1 + rule.files) words
+
+-- the words have the shape of this command: its name, its files, and then words that each suit one of its keys, with the keys given right
+pub record IsShaped (rule : CommandRule) (words : List (List ℕ)) : Type 0 where
+  pub named : slice_get words 0 ≡ Some rule.name
+  pub files : rule.files < length words
+  pub known : All (λ word. Any (Suits word) rule.keys) (later rule words)
+  pub given : All (IsGivenRight (later rule words)) rule.keys
+
+-- the words have the shape of some command
+abbrev pub IsCommand : List (List ℕ) → Type 0
+IsCommand words = Any (λ rule. IsShaped rule words) command_rules
+
+-- ---- numbers
+
+-- the value is the decimal form of a number that the key may have
+abbrev pub IsNumber : Takes → List ℕ → ℕ → Type 0
+IsNumber (number least most) value n = (value ≡ decimal n) × (least ≤ n) × (n ≤ most)
+IsNumber names value n = ⊥
+
+-- the key takes a number, and the value is none that it may have
+abbrev pub IsBad : Takes → List ℕ → Type 0
+IsBad (number least most) value = (n : ℕ) → ¬ IsNumber (number least most) value n
+IsBad names value = ⊥
+
+-- behind the files, the word at this place gives the key this value
+pub record GivesAt (rule : CommandRule) (words : List (List ℕ)) (place : ℕ) (key : KeyRule) (value : List ℕ) : Type 0 where
+  pub behind : rule.files < place
+  pub word : List ℕ
+  pub at : slice_get words place ≡ Some word
+  pub gives : Gives word key.name value
+
+-- the key is given this number
+abbrev pub IsGiven : CommandRule → List (List ℕ) → KeyRule → ℕ → Type 0
+IsGiven rule words key n = (place : ℕ) × (value : List ℕ) × GivesAt rule words place key value × IsNumber key.takes value n
+
+-- the word at this place gives a number that its key may not have
+abbrev pub IsBadAt : CommandRule → List (List ℕ) → ℕ → Type 0
+IsBadAt rule words place = Any (λ key. (value : List ℕ) × GivesAt rule words place key value × IsBad key.takes value) rule.keys
+
+-- and no word before it does
+abbrev pub IsFirstBad : CommandRule → List (List ℕ) → ℕ → Type 0
+IsFirstBad rule words place = IsBadAt rule words place × ((earlier : ℕ) → earlier < place → ¬ IsBadAt rule words earlier)
+
+-- the words have the shape of a command, and this is the place of their first bad number
+abbrev pub IsBadNumber : List (List ℕ) → ℕ → Type 0
+IsBadNumber words place = Any (λ rule. IsShaped rule words × IsFirstBad rule words place) command_rules
+
+-- ---- the commands
 
 -- the words ask for the restoration of this netlist and this dump
 abbrev pub Restores : List (List ℕ) → List ℕ → List ℕ → Type 0
@@ -9,6 +130,14 @@ Restores words netlist dump = words ≡ codes "restore" ∷ netlist ∷ dump ∷
 abbrev pub Prints : List (List ℕ) → List ℕ → Type 0
 Prints words netlist = words ≡ codes "print" ∷ netlist ∷ []
 
+-- the words ask for a run of this netlist over so many cycles from this seed, and for what the word at place `trace` names
+pub record Simulates (words : List (List ℕ)) (netlist : List ℕ) (cycles seed trace : ℕ) : Type 0 where
+  pub shaped : IsShaped simulate_rule words
+  pub is_netlist : slice_get words 1 ≡ Some netlist
+  pub has_cycles : IsGiven simulate_rule words cycles_rule cycles
+  pub has_seed : IsGiven simulate_rule words seed_rule seed
+  pub has_trace : (value : List ℕ) × GivesAt simulate_rule words trace trace_rule value
+
 -- the words are `restore` and two more
 abbrev pub IsRestore : List (List ℕ) → Type 0
 IsRestore words = (netlist dump : List ℕ) × Restores words netlist dump
@@ -17,6 +146,6 @@ IsRestore words = (netlist dump : List ℕ) × Restores words netlist dump
 abbrev pub IsPrint : List (List ℕ) → Type 0
 IsPrint words = (netlist : List ℕ) × Prints words netlist
 
--- the words are those of a command
-abbrev pub IsCommand : List (List ℕ) → Type 0
-IsCommand words = IsRestore words ⊎ IsPrint words
+-- the words are `simulate` and what it takes
+abbrev pub IsSimulate : List (List ℕ) → Type 0
+IsSimulate words = (netlist : List ℕ) × (cycles seed trace : ℕ) × Simulates words netlist cycles seed trace

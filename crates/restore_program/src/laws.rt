@@ -1,10 +1,12 @@
 //! The laws of what a run answers: a function that does nothing, with the laws as its contract.
-ghost use Rattle.restore_program.specs.AnswerLaws.{HasOneAnswer, AcceptedIsAnswered, PrintableIsPrinted};
+ghost use Rattle.restore_program.specs.AnswerLaws.{HasOneAnswer, AcceptedIsAnswered, PrintableIsPrinted, TraceableIsTraced};
 
 /// Words have one answer at most, by what the inputs hold. Where `restore` is asked for on an accepted netlist and dump, each answer is a table, or says
-/// that both literals of some cell follow; where `print` is asked for on an accepted netlist, it is the netlist's text.
+/// that both literals of some cell follow; where `print` is asked for on an accepted netlist, it is the netlist's text; and where `simulate` is asked for on
+/// one, with names of signals, each once, and not too many cells, it is the dump of the run.
 pub fn answer_laws()
     ensures one_answer { HasOneAnswer }
     ensures accepted { AcceptedIsAnswered }
     ensures printable { PrintableIsPrinted }
+    ensures traceable { TraceableIsTraced }
 {}

@@ -7,11 +7,16 @@ mod netlists;
 mod print;
 mod reply;
 mod restore;
+mod simulate;
 mod status;
 mod table;
 #[cfg(test)]
 mod tests;
 mod top;
+mod trace;
+mod word_keys;
+mod word_numbers;
+mod word_rules;
 mod words;
 
 pub use laws::answer_laws;

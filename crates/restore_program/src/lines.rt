@@ -1,10 +1,11 @@
 //! The lines of refusals.
 ghost use Rattle.std.specs.Prelude.{◌≡◌, ◌++◌, codes};
 ghost use Rattle.std.specs.Fmt.{decimal};
-ghost use Rattle.restore_program.specs.Reply.{name_of, too_long_line, refused_line, bench_line, net_line, dump_line, fault_line, joined};
+ghost use Rattle.restore_program.specs.Reply.{name_of, too_long_line, refused_line, bench_line, net_line, dump_line, fault_line, number_line, trace_line, many_cells_line, joined};
 ghost use Rattle.restore_program.specs.Writes.{Writes};
 
 use crate::reply::Part;
+use crate::trace::TraceRefusal;
 use bench_reader::BenchRefusal;
 use dump_reader::DumpRefusal;
 use itoa::Buffer;
@@ -158,6 +159,43 @@ fn write_too_many_cells<K: Sink>(out: &mut K, line: u64, product: u64) -> Result
         out,
         &[start, line_digits.as_bytes(), why, digits.as_bytes(), end],
     )
+}
+
+/// Writes that a number is none that its key may have.
+pub(crate) fn write_number<K: Sink>(out: &mut K, key: &'static str) -> Result<(), WriteFault>
+    ensures { Writes (K.written out.old) (K.written out.new) (K.room out.new) (K.faults out.old) (K.faults out.new) result (number_line key.now) }
+{
+    let start: &[u8] = b"srestore: words: 23 number ";
+    let end: &[u8] = b"\n";
+    write_pieces(out, &[start, key.as_bytes(), end])
+}
+
+/// Writes why a list of names is refused.
+pub(crate) fn write_trace_refusal<K: Sink>(
+    out: &mut K,
+    refusal: &TraceRefusal,
+) -> Result<(), WriteFault>
+    ensures { Writes (K.written out.old) (K.written out.new) (K.room out.new) (K.faults out.old) (K.faults out.new) result (trace_line refusal.now) }
+{
+    let unknown: &[u8] = b"srestore: words: 26 unknown trace ";
+    let twice: &[u8] = b"srestore: words: 27 trace twice ";
+    let end: &[u8] = b"\n";
+    match refusal {
+        TraceRefusal::Unknown { name } => write_pieces(out, &[unknown, name.as_slice(), end]),
+        TraceRefusal::Twice { name } => write_pieces(out, &[twice, name.as_slice(), end]),
+        TraceRefusal::NoMemory => write_text(out, b"srestore: no memory\n"),
+    }
+}
+
+/// Writes that the cells of a simulation are too many.
+pub(crate) fn write_many_cells<K: Sink>(out: &mut K, product: u64) -> Result<(), WriteFault>
+    ensures { Writes (K.written out.old) (K.written out.new) (K.room out.new) (K.faults out.old) (K.faults out.new) result (many_cells_line product) }
+{
+    let start: &[u8] = b"srestore: words: 17 too many cells ";
+    let end: &[u8] = b"\n";
+    let mut buffer = Buffer::new();
+    let digits = buffer.format(product);
+    write_pieces(out, &[start, digits.as_bytes(), end])
 }
 
 /// Writes that nothing drives a signal.

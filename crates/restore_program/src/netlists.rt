@@ -2,7 +2,7 @@
 ghost use Rattle.std.specs.Prelude.{◌≡◌, ◌≢◌, ◌<◌, ◌≤◌, length, IfOk, IfErr, OnOk, IfSome};
 ghost use Rattle.sr_outside.specs.Counts.{IsCounted};
 ghost use Rattle.sr_outside.specs.Told.{IsSteady};
-ghost use Rattle.restore_program.specs.Answer.{most_bytes, IsFault, IsNetlistFault, IsNetlistOf, IsNetlistText, OnFault, OnRefused, RefusedNetlist, Replies, unread_reply};
+ghost use Rattle.restore_program.specs.Answer.{IsOfWords, most_bytes, IsFault, IsNetlistFault, IsNetlistOf, IsNetlistText, OnFault, OnRefused, RefusedNetlist, Replies, unread_reply};
 
 use crate::reply::{Part, Reply};
 use bench_reader::read_bench;
@@ -22,7 +22,7 @@ pub(crate) fn read_netlist<I: Inputs>(
     ensures netlist { IfOk result (λ n. IfSome (I.held inputs.old) (λ held. IsNetlistOf held name.now n)) }
     ensures refused { IfErr result (λ reply. IfSome (I.held inputs.old) (λ held. Replies (OnRefused held name.now) reply)) }
     ensures fault_of { IfErr result (OnFault (IsNetlistFault (I.held inputs.old) (I.shaky inputs.old) name.now)) }
-    ensures not_usage { IfErr result (λ reply. reply ≢ Reply.Usage) }
+    ensures not_of_words { IfErr result (λ reply. ¬ (IsOfWords reply)) }
     ensures held { I.held inputs.new ≡ I.held inputs.old }
     ensures shaky { I.shaky inputs.new ≡ I.shaky inputs.old }
     ensures fault { IfErr result (λ reply. IsFault reply → IsCounted (I.faults inputs.old) (I.faults inputs.new)) }
@@ -53,7 +53,7 @@ fn parse_netlist(alloc: Global, bytes: &[u8]) -> Result<Netlist, Reply>
     requires short { length bytes.now ≤ most_bytes }
     ensures netlist { IfOk result (IsNetlistText bytes.now) }
     ensures refused { IfErr result (Replies (RefusedNetlist bytes.now)) }
-    ensures not_usage { IfErr result (λ reply. reply ≢ Reply.Usage) }
+    ensures not_of_words { IfErr result (λ reply. ¬ (IsOfWords reply)) }
     ensures no_fault { IfErr result (λ reply. ¬ (IsFault reply)) }
 {
     let statements = match read_bench(alloc, bytes) {

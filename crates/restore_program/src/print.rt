@@ -2,7 +2,7 @@
 ghost use Rattle.std.specs.Prelude.{◌≡◌, ◌≢◌, ◌<◌, ◌≤◌, IfSome};
 ghost use Rattle.sr_outside.specs.Counts.{IsCounted};
 ghost use Rattle.sr_outside.specs.Told.{IsSteady};
-ghost use Rattle.restore_program.specs.Answer.{IsFault, IsNetlistFault, OnFault, PrintAnswer, Replies};
+ghost use Rattle.restore_program.specs.Answer.{IsOfWords, IsFault, IsNetlistFault, OnFault, PrintAnswer, Replies};
 ghost use Rattle.restore_program.specs.Printing.{IsPrinted};
 
 use crate::netlists::read_netlist;
@@ -17,7 +17,7 @@ use std::alloc::Global;
 pub(crate) fn print_reply<I: Inputs>(alloc: Global, inputs: &mut I, netlist: &str) -> Reply
     ensures answer { IfSome (I.held inputs.old) (λ held. Replies (PrintAnswer held netlist.now) result) }
     ensures fault_of { OnFault (IsNetlistFault (I.held inputs.old) (I.shaky inputs.old) netlist.now) result }
-    ensures not_usage { result ≢ Reply.Usage }
+    ensures not_of_words { ¬ (IsOfWords result) }
     ensures fault { IsFault result → IsCounted (I.faults inputs.old) (I.faults inputs.new) }
     ensures rose { I.faults inputs.old < I.faults inputs.new → IsFault result }
     ensures never_falls { I.faults inputs.old ≤ I.faults inputs.new }

@@ -6,7 +6,7 @@ ghost use Rattle.sr_outside.specs.Counts.{IsCounted};
 ghost use Rattle.sr_outside.specs.Told.{IsSteady};
 ghost use Rattle.unroll.specs.Problem.{signals_in, unrolled};
 ghost use Rattle.known_planes.specs.Planes.{IsOf, has, lits};
-ghost use Rattle.restore_program.specs.Answer.{most_bytes, OnDump, OnFault, OnKnown, Replies, IsDumpFault, IsDumpText, IsFault, IsFaultOf, RestoreAnswer, DumpAnswer};
+ghost use Rattle.restore_program.specs.Answer.{IsOfWords, most_bytes, OnDump, OnFault, OnKnown, Replies, IsDumpFault, IsDumpText, IsFault, IsFaultOf, RestoreAnswer, DumpAnswer};
 
 use crate::netlists::{MOST_BYTES, read_netlist, unread};
 use crate::reply::{Part, Reply};
@@ -31,7 +31,7 @@ pub(crate) fn restore_reply<R: Threads + Sync, I: Inputs, C: Closer>(
 ) -> Reply
     ensures answer { IfSome (I.held inputs.old) (λ held. Replies (RestoreAnswer held netlist.now dump.now) result) }
     ensures fault_of { OnFault (IsFaultOf (I.held inputs.old) (I.shaky inputs.old) netlist.now dump.now) result }
-    ensures not_usage { result ≢ Reply.Usage }
+    ensures not_of_words { ¬ (IsOfWords result) }
     ensures fault { IsFault result → IsCounted (I.faults inputs.old) (I.faults inputs.new) }
     ensures rose { I.faults inputs.old < I.faults inputs.new → IsFault result }
     ensures never_falls { I.faults inputs.old ≤ I.faults inputs.new }
@@ -55,7 +55,7 @@ fn dump_reply<R: Threads + Sync, I: Inputs, C: Closer>(
 ) -> Reply
     ensures answer { IfSome (I.held inputs.old) (λ held. Replies (DumpAnswer held n.now dump.now) result) }
     ensures fault_of { OnFault (IsDumpFault (I.held inputs.old) (I.shaky inputs.old) dump.now) result }
-    ensures not_usage { result ≢ Reply.Usage }
+    ensures not_of_words { ¬ (IsOfWords result) }
     ensures fault { IsFault result → IsCounted (I.faults inputs.old) (I.faults inputs.new) }
     ensures rose { I.faults inputs.old < I.faults inputs.new → IsFault result }
     ensures never_falls { I.faults inputs.old ≤ I.faults inputs.new }
@@ -77,7 +77,7 @@ fn recorded_reply<R: Threads + Sync, C: Closer>(
 ) -> Reply
     requires short { length bytes.now ≤ most_bytes }
     ensures answer { Replies (OnDump n.now bytes.now) result }
-    ensures not_usage { result ≢ Reply.Usage }
+    ensures not_of_words { ¬ (IsOfWords result) }
     ensures no_fault { ¬ (IsFault result) }
 {
     let dump = match read_dump(alloc, n, bytes) {
@@ -99,7 +99,7 @@ fn closed_reply<R: Threads + Sync, C: Closer>(
     requires cycles { dump.now.cycles ≡ p.now.cycles }
     requires signals { All (λ row. row.sig.0 < signals_in p.now) dump.now.rows }
     ensures answer { (bytes : List ℕ) → IsDumpText p.now.circuit bytes dump.now → Replies (OnDump p.now.circuit bytes) result }
-    ensures not_usage { result ≢ Reply.Usage }
+    ensures not_of_words { ¬ (IsOfWords result) }
     ensures no_fault { ¬ (IsFault result) }
 {
     match known_from(rt, alloc, closer, p, dump) {

@@ -7,6 +7,8 @@ use std::process::Abort;
 use std::test::*;
 use std::thread::Threads;
 
+mod simulations;
+
 const GATES: &[u8] = b"INPUT(a)\nINPUT(b)\nn = NOT(a)\ng = AND(n, b)\nq = DFF(g)\nr = DFF(n)\n";
 
 const WITH_OR: &[u8] = b"INPUT(a)\nINPUT(b)\nz = OR(a, b)\nq = DFF(z)\n";
@@ -31,6 +33,14 @@ const CLASH: &[u8] = b"srestore: dump: 28 not built yet\n";
 const RESTORE: [&str; 3] = ["restore", "net", "dump"];
 
 const PRINT: [&str; 2] = ["print", "net"];
+
+const SIMULATE: [&str; 5] = ["simulate", "net", "cycles=2", "seed=1", "trace=r,a"];
+
+/// What `SIMULATE` writes of `GATES`.
+const TRACE: &[u8] = b"srdump 1\ncycles 2\nr 00\na 11\n";
+
+/// No netlist here has a signal of this name.
+const UNKNOWN: [&str; 5] = ["simulate", "net", "cycles=2", "seed=1", "trace=zz"];
 
 fn words_of(alloc: Global, words: &[&str]) -> Result<Vec<String>, AllocError> {
     let mut owned = Vec::new(alloc);
@@ -239,6 +249,7 @@ fn refused_netlists(rt: HostRuntime) -> Result<(), Fail> {
         alone.add("net", netlist)?;
         expect_run(&rt, rt.alloc(), &RESTORE, &mut alone, 100, (text, 3))?;
         expect_run(&rt, rt.alloc(), &PRINT, &mut alone, 100, (text, 3))?;
+        expect_run(&rt, rt.alloc(), &UNKNOWN, &mut alone, 100, (text, 3))?;
     }
     Ok(())
 }
@@ -308,15 +319,21 @@ fn refused_dumps(rt: HostRuntime) -> Result<(), Fail> {
     Ok(())
 }
 
-#[test]
-fn too_many_cells(rt: HostRuntime) -> Result<(), Fail> {
-    let mut netlist = Vec::new(rt.alloc());
+/// The inputs 0 to 32,768, one more than 8,192 cycles may have.
+fn many_inputs(alloc: Global) -> Result<Vec<u8>, AllocError> {
+    let mut netlist = Vec::new(alloc);
     for i in 0..32_769_u32 {
         let mut buffer = Buffer::new();
         netlist.extend_from_slice(b"INPUT(")?;
         netlist.extend_from_slice(buffer.format(i).as_bytes())?;
         netlist.extend_from_slice(b")\n")?;
     }
+    Ok(netlist)
+}
+
+#[test]
+fn too_many_cells(rt: HostRuntime) -> Result<(), Fail> {
+    let netlist = many_inputs(rt.alloc())?;
     let line: &[u8] = b"srestore: dump line 2: 17 too many cells 4194432\n";
     let dump: &[u8] = b"srdump 1\ncycles 8192\n";
     expect_restored(&rt, rt.alloc(), &netlist, dump, (line, 4))
@@ -547,10 +564,11 @@ fn printed_netlists(rt: HostRuntime) -> Result<(), Fail> {
 #[test]
 fn reads_that_fail(rt: HostRuntime) -> Result<(), Fail> {
     let alloc = rt.alloc();
-    let cases: [(&[&str], &str, u32, &[u8], &[u8]); 3] = [
+    let cases: [(&[&str], &str, u32, &[u8], &[u8]); 4] = [
         (&RESTORE, "net", 14, NETLIST_FAULT, TABLE),
         (&RESTORE, "dump", 6, DUMP_FAULT, TABLE),
         (&PRINT, "net", 14, NETLIST_FAULT, GATES),
+        (&SIMULATE, "net", 14, NETLIST_FAULT, TRACE),
     ];
     for (words, name, last, fault, text) in cases {
         for call in 0..16 {
@@ -571,11 +589,13 @@ fn reads_that_fail(rt: HostRuntime) -> Result<(), Fail> {
 #[test]
 fn sinks_that_stop(rt: HostRuntime) -> Result<(), Fail> {
     let alloc = rt.alloc();
-    let cases: [(&[&str], &[u8], &[u8], u8); 4] = [
+    let cases: [(&[&str], &[u8], &[u8], u8); 6] = [
         (&RESTORE, DUMP, TABLE, 0),
         (&RESTORE, b"", b"srestore: dump line 1: 10 bad head\n", 4),
         (&["restore"], DUMP, USAGE, 2),
         (&PRINT, DUMP, GATES, 0),
+        (&SIMULATE, b"", TRACE, 0),
+        (&UNKNOWN, b"", b"srestore: words: 26 unknown trace zz\n", 2),
     ];
     for (words, dump, text, code) in cases {
         for room in 0..100 {

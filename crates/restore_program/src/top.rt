@@ -5,15 +5,18 @@ ghost use Rattle.std.specs.Io.KnownBytes.{append_known};
 ghost use Rattle.sr_outside.specs.Counts.{IsCounted};
 ghost use Rattle.sr_outside.specs.Told.{AppendsPart, IsFull};
 ghost use Rattle.restore_program.specs.declared.status.Status.{Status as AnyStatus};
-ghost use Rattle.restore_program.specs.Words.{IsCommand, IsRestore};
-ghost use Rattle.restore_program.specs.Answer.{AreSteady, IsFault, IsPlain, IsWordsFault, OnFault, ReplyAnswer, Says};
-ghost use Rattle.restore_program.specs.Reply.{clash_line};
-ghost use Rattle.restore_program.specs.Sound.{Finishes, IsAccepted, IsPrintable, IsSoundTable, NoneMatches};
+ghost use Rattle.restore_program.specs.Words.{Gives, IsRestore, IsSimulate, cycles_rule, seed_rule, trace_rule};
+ghost use Rattle.restore_program.specs.Answer.{AreRefused, AreSteady, IsFault, IsOfWords, IsPlain, IsWordsFault, OnFault, ReplyAnswer, Says};
+ghost use Rattle.restore_program.specs.Reply.{clash_line, status_of};
+ghost use Rattle.restore_program.specs.Sound.{Finishes, IsAccepted, IsPrintable, IsSoundTable, IsTraceable, NoneMatches};
 
 use crate::print::print_reply;
 use crate::reply::{Reply, reply_status, write_reply};
 use crate::restore::restore_reply;
+use crate::simulate::simulate_reply;
 use crate::status::Status;
+use crate::word_keys::value_of;
+use crate::word_rules::{CYCLES, SEED, TRACE};
 use crate::words::{Settings, WordRefusal, read_words};
 use known_planes::Closer;
 use plain_close::PlainCloser;
@@ -48,9 +51,12 @@ pub fn run<R: Threads + Sync, I: Inputs, K: Sink>(
     // The text of an accepted netlist is printed, unless memory, reading or writing fails.
     ensures printed { IfSome (I.held inputs.old) (λ held. IsPrintable (map string_bytes words.now) held → IsPlain result → result ≡ Status.Done) }
 
-    // Words that are refused start no input.
-    ensures usage { result ≡ Status.Words → ¬ IsCommand (map string_bytes words.now) }
-    ensures refused { ¬ IsCommand (map string_bytes words.now) → ((result ≡ Status.Words) ⊎ (result ≡ Status.WriteFault)) × (inputs.new ≡ inputs.old) }
+    // The dump of a run is written where the netlist, the names and the number of cycles are accepted, unless memory, reading or writing fails.
+    ensures traced { IfSome (I.held inputs.old) (λ held. IsTraceable (map string_bytes words.now) held → IsPlain result → result ≡ Status.Done) }
+
+    // Words that are refused start no input. Behind a netlist only the names of a trace can be refused.
+    ensures usage { result ≡ Status.Words → AreRefused (map string_bytes words.now) ⊎ IsSimulate (map string_bytes words.now) }
+    ensures refused { AreRefused (map string_bytes words.now) → ((result ≡ Status.Words) ⊎ (result ≡ Status.WriteFault)) × (inputs.new ≡ inputs.old) }
 
     // A fault is answered only where one was counted.
     ensures read_fault { result ≡ Status.ReadFault → IsCounted (I.faults inputs.old) (I.faults inputs.new) }
@@ -82,8 +88,8 @@ fn reply_to<R: Threads + Sync, I: Inputs, C: Closer>(
 ) -> Reply
     ensures answer { ReplyAnswer (map string_bytes words.now) (I.held inputs.old) result }
     ensures fault_of { OnFault (IsWordsFault (map string_bytes words.now) (I.held inputs.old) (I.shaky inputs.old)) result }
-    ensures usage { result ≡ Reply.Usage → ¬ IsCommand (map string_bytes words.now) }
-    ensures refused { ¬ IsCommand (map string_bytes words.now) → (result ≡ Reply.Usage) × (inputs.new ≡ inputs.old) }
+    ensures of_words { IsOfWords result → AreRefused (map string_bytes words.now) ⊎ IsSimulate (map string_bytes words.now) }
+    ensures refused { AreRefused (map string_bytes words.now) → (status_of result ≡ Status.Words) × (inputs.new ≡ inputs.old) }
     ensures fault { IsFault result → IsCounted (I.faults inputs.old) (I.faults inputs.new) }
     ensures rose { I.faults inputs.old < I.faults inputs.new → IsFault result }
     ensures steady { AreSteady (I.held inputs.old) (I.shaky inputs.old) (map string_bytes words.now) → I.faults inputs.new ≡ I.faults inputs.old }
@@ -97,7 +103,44 @@ fn reply_to<R: Threads + Sync, I: Inputs, C: Closer>(
             words[1].as_str(),
             words[2].as_str(),
         ),
+        Ok(
+            Settings::Simulate {
+                cycles,
+                seed,
+                trace,
+            },
+        ) => simulate_reply(
+            alloc,
+            inputs,
+            words[1].as_str(),
+            cycles,
+            seed,
+            trace_list(words[trace].as_str()),
+        ),
         Ok(Settings::Print) => print_reply(alloc, inputs, words[1].as_str()),
         Err(WordRefusal::Usage) => Reply::Usage,
+        Err(WordRefusal::Number { place }) => Reply::Number {
+            key: number_key(words[place].as_str()),
+        },
+    }
+}
+
+/// The list of names that a word gives to the key `trace`.
+fn trace_list(word: &str) -> &str
+    requires { (list : List ℕ) × Gives word.now trace_rule.name list }
+    ensures { Gives word.now trace_rule.name result.now }
+{
+    value_of(word, TRACE.name).unwrap()
+}
+
+/// The key with a number that a word is for.
+fn number_key(word: &str) -> &'static str
+    requires { (value : List ℕ) × (Gives word.now cycles_rule.name value ⊎ Gives word.now seed_rule.name value) }
+    ensures { (value : List ℕ) × Gives word.now result.now value }
+{
+    if value_of(word, CYCLES.name).is_some() {
+        CYCLES.name
+    } else {
+        SEED.name
     }
 }

@@ -1,15 +1,30 @@
 //! Reads the words of the command line.
-ghost use Rattle.std.specs.Prelude.{◌≡◌, ◌↔◌, IsTrue, Ok, Err, map};
+ghost use Rattle.std.specs.Prelude.{◌≡◌, ◌↔◌, ◌<◌, IsTrue, ℕ, List, Some, Ok, Err, map, length};
+ghost use Rattle.std.specs.List.{slice_get};
 ghost use Rattle.std.specs.String.{string_bytes};
-ghost use Rattle.restore_program.specs.Words.{IsCommand, IsPrint, IsRestore};
+ghost use Rattle.restore_program.specs.Words.{IsBadNumber, IsCommand, IsPrint, IsRestore, IsShaped, Simulates, simulate_rule};
+ghost use Rattle.restore_program.specs.WordRules.{command_rule_of};
+ghost use Rattle.restore_program.specs.WordMeaning.{Means};
 
+use crate::word_keys::{place_of, suit_all};
+use crate::word_numbers::{bad_number, number_of};
+use crate::word_rules::{CYCLES, Command, PRINT, RESTORE, SEED, SIMULATE, TRACE};
 use thiserror::Error;
+
+#[cfg(test)]
+mod tests;
 
 /// What the words ask for.
 #[derive(Clone, Copy, Debug, PartialEq, Eq)]
 pub enum Settings {
     /// The restoration of a netlist and a dump: the two words that follow.
     Restore,
+    /// A run of a netlist, the word that follows, over so many cycles from this seed; and the place of the word `trace=..` among the words.
+    Simulate {
+        cycles: u32,
+        seed: u64,
+        trace: usize,
+    },
     /// The text of a netlist: the word that follows.
     Print,
 }
@@ -20,31 +35,71 @@ pub enum WordRefusal {
     /// They have none of the commands' shapes.
     #[error("usage")]
     Usage,
+    /// A number is none that its key takes. The word is the first such one, by its place among the words.
+    #[error("word {place}: number")]
+    Number { place: usize },
 }
 
-/// What the words ask for: `restore` and two more, or `print` and one more. It takes no memory.
+/// What the words of the command line, without the program's name, ask for. The first word is the command. Its files follow, and any text may
+/// stand there. Then follow words `key=value` in any order, where the key ends at the first `=`.
+///
+/// - `restore NET DUMP`, with no keys.
+/// - `simulate NET`, with three keys, each of which has to be given: `cycles`, a number from 1 to 8,192; `seed`, any number below 2^64; and
+///   `trace`, one or more names that are not empty, parted by commas.
+/// - `print NET`, with no keys.
+///
+/// It takes no memory, and the time is linear in the words' length.
 pub fn read_words(words: &[String]) -> Result<Settings, WordRefusal>
     ensures restore { (result ≡ Ok Settings.Restore) ↔ IsRestore (map string_bytes words.now) }
+    ensures simulate { (cycles seed trace : ℕ) → (result ≡ Ok (Settings.Simulate cycles seed trace))
+        ↔ ((netlist : List ℕ) × Simulates (map string_bytes words.now) netlist cycles seed trace) }
     ensures print { (result ≡ Ok Settings.Print) ↔ IsPrint (map string_bytes words.now) }
+
+    // The shape is that of no command.
     ensures usage { (result ≡ Err WordRefusal.Usage) ↔ (¬ IsCommand (map string_bytes words.now)) }
+    // The shape is that of a command, and a number is none that its key may have.
+    ensures number { (place : ℕ) → (result ≡ Err (WordRefusal.Number place)) ↔ IsBadNumber (map string_bytes words.now) place }
 {
-    if is_restore(words) {
+    if is_shaped(words, &RESTORE) {
         Ok(Settings::Restore)
-    } else if is_print(words) {
+    } else if is_shaped(words, &SIMULATE) {
+        read_simulate(words)
+    } else if is_shaped(words, &PRINT) {
         Ok(Settings::Print)
     } else {
         Err(WordRefusal::Usage)
     }
 }
 
-fn is_restore(words: &[String]) -> bool
-    ensures { IsTrue result ↔ IsRestore (map string_bytes words.now) }
+/// Whether the words have the shape of the command.
+fn is_shaped(words: &[String], command: &Command) -> bool
+    ensures { IsTrue result ↔ IsShaped (command_rule_of command.now) (map string_bytes words.now) }
 {
-    words.len() == 3 && words[0].as_str() == "restore"
+    has_files(words, command) && suit_all(&words[command.files + 1..], command.keys)
 }
 
-fn is_print(words: &[String]) -> bool
-    ensures { IsTrue result ↔ IsPrint (map string_bytes words.now) }
+/// Whether the command's name and its files are there.
+fn has_files(words: &[String], command: &Command) -> bool
+    ensures { IsTrue result ↔ ((slice_get (map string_bytes words.now) 0 ≡ Some command.now.name.now) × (command.now.files < length words.now)) }
 {
-    words.len() == 2 && words[0].as_str() == "print"
+    command.files < words.len() && words[0].as_str() == command.name
+}
+
+/// What the words of a `simulate` say.
+fn read_simulate(words: &[String]) -> Result<Settings, WordRefusal>
+    requires { IsShaped simulate_rule (map string_bytes words.now) }
+    ensures { Means (map string_bytes words.now) result }
+{
+    let first = 1 + SIMULATE.files;
+    let keyed = &words[first..];
+    if let Some(place) = bad_number(keyed, SIMULATE.keys) {
+        return Err(WordRefusal::Number {
+            place: first + place,
+        });
+    }
+    Ok(Settings::Simulate {
+        cycles: number_of(keyed, &CYCLES).unwrap() as u32,
+        seed: number_of(keyed, &SEED).unwrap(),
+        trace: first + place_of(keyed, &TRACE).unwrap(),
+    })
 }

@@ -1,4 +1,4 @@
-//! `srestore`: from a netlist and a dump to the table of what the dump restores.
+//! `srestore`: runs the command of the command line over files and standard output.
 #![tactic(auto)]
 
 use restore_program::{Status, run};

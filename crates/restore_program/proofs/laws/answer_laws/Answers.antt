@@ -1,4 +1,4 @@
-use Rattle.restore_program.proofs.OneAnswer.{one_answer, accepted_is_answered, printable_is_printed}
+use Rattle.restore_program.proofs.OneAnswer.{one_answer, accepted_is_answered, printable_is_printed, traceable_is_traced}
 use Rattle.restore_program.proofs.laws.answer_laws.Goals as goal
 
 pub returns-clause-one_answer : goal.returns-clause-one_answer
@@ -9,3 +9,6 @@ returns-clause-accepted c = accepted_is_answered
 
 pub returns-clause-printable : goal.returns-clause-printable
 returns-clause-printable c = printable_is_printed
+
+pub returns-clause-traceable : goal.returns-clause-traceable
+returns-clause-traceable c = traceable_is_traced

@@ -11,8 +11,8 @@ returns-in-Ok-clause-fault_of g c =
     no_faults (IsNetlistFault (g.I.Inputs.held c.args.inputs.now) (g.I.Inputs.shaky c.args.inputs.now) c.args.netlist.now) c.printed_reply.result
     (printed-plain c.in-Ok.n c.printed_reply.result c.printed_reply.ensures).0
 
-pub returns-in-Ok-clause-not_usage : goal.returns-in-Ok-clause-not_usage
-returns-in-Ok-clause-not_usage g c = (printed-plain c.in-Ok.n c.printed_reply.result c.printed_reply.ensures).1
+pub returns-in-Ok-clause-not_of_words : goal.returns-in-Ok-clause-not_of_words
+returns-in-Ok-clause-not_of_words g c = (printed-plain c.in-Ok.n c.printed_reply.result c.printed_reply.ensures).1
 
 pub returns-in-Ok-clause-fault : goal.returns-in-Ok-clause-fault
 returns-in-Ok-clause-fault g c fault = absurd ((printed-plain c.in-Ok.n c.printed_reply.result c.printed_reply.ensures).0 fault)

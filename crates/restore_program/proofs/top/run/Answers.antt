@@ -1,14 +1,14 @@
-use Rattle.std.proofs.Common.{◌≡◌, List, ℕ, Option, map, sym, ap, subst, ◌∙◌}
+use Rattle.std.proofs.Common.{◌≡◌, List, ℕ, Option, map, sym, ap, subst, ◌∙◌, inl}
 use Rattle.std.specs.Prelude.{IfSome}
 use Rattle.std.specs.String.{string_bytes}
 use Rattle.std.specs.Io.KnownBytes.{append_known}
 use Rattle.restore_program.specs.Reply.{clash_line, status_of, text_of}
-use Rattle.restore_program.specs.Sound.{Finishes, IsAccepted, IsPrintable, NoneMatches}
+use Rattle.restore_program.specs.Sound.{Finishes, IsAccepted, IsPrintable, IsTraceable, NoneMatches}
 use Rattle.restore_program.specs.declared.status.Status.TheVariants as statuses
 use Rattle.sr_outside.specs.Told.{Held}
 use Rattle.restore_program.specs.Answer.{IsPlain, Says}
 use Rattle.restore_program.proofs.Answering.{says}
-use Rattle.restore_program.proofs.Sounding.{sound_reply, clash_reply, appended_is, finishes, prints}
+use Rattle.restore_program.proofs.Sounding.{sound_reply, clash_reply, appended_is, finishes, prints, traces}
 use Rattle.restore_program.proofs.top.run.Goals as goal
 
 pub returns-in-Ok-clause-answer : goal.returns-in-Ok-clause-answer
@@ -47,6 +47,17 @@ returns-in-Ok-clause-printed g c =
     let words : List (List ℕ) = map string_bytes c.args.words.now in
     subst (λ status. IfSome (g.I.Inputs.held c.args.inputs.now) (λ held. IsPrintable words held → IsPlain status → status ≡ statuses.Done)) (sym c.reply_status.ensures)
     (prints words (g.I.Inputs.held c.args.inputs.now) c.reply_to-reply.result c.reply_to-reply.ensures.answer)
+
+pub returns-in-Ok-clause-traced : goal.returns-in-Ok-clause-traced
+returns-in-Ok-clause-traced g c =
+    let words : List (List ℕ) = map string_bytes c.args.words.now in
+    subst (λ status. IfSome (g.I.Inputs.held c.args.inputs.now) (λ held. IsTraceable words held → IsPlain status → status ≡ statuses.Done)) (sym c.reply_status.ensures)
+    (traces words (g.I.Inputs.held c.args.inputs.now) c.reply_to-reply.result c.reply_to-reply.ensures.answer)
+
+pub returns-in-Ok-clause-refused : goal.returns-in-Ok-clause-refused
+returns-in-Ok-clause-refused g c refused =
+    let is = c.reply_to-reply.ensures.refused refused in
+    (inl (c.reply_status.ensures ∙ is.0), is.1)
 
 pub returns-clause-part : goal.returns-clause-part
 returns-clause-part g c _ = (

@@ -1,0 +1,96 @@
+-- Whether words have the shape of a command.
+use Rattle.std.proofs.Common.{◌≡◌, ◌<◌, ◌+◌, ◌⊎◌, ℕ, Bool, List, [], ◌∷◌, zero, suc, length, drop, get_or, map, Some, refl, sym, ap, subst, ◌∙◌, inl, inr, ⊎_elim, lit<, arith}
+use Rattle.std.specs.Prelude.{All, Any, IsTrue, codes, option_map}
+use Rattle.std.specs.List.{slice_get}
+use Rattle.std.specs.Str.{bytes_eq}
+use Rattle.std.proofs.lemmas.List.Elements.{All-nil}
+use Rattle.std.proofs.lemmas.Option.{same_Some, slice_get-map, slice_get_read}
+use Rattle.std.proofs.lemmas.Slice.Eq.{bytes_eq-Decides}
+use Rattle.restore_program.specs.Words.{CommandRule, IsCommand, IsGivenRight, IsPrint, IsRestore, IsShaped, Suits, later, print_rule, restore_rule, simulate_rule}
+
+abbrev SuitsAll : CommandRule → List (List ℕ) → Type 0
+SuitsAll rule words = All (λ word. Any (Suits word) rule.keys) words × All (IsGivenRight words) rule.keys
+
+pub shaped_by : (rule : CommandRule) (words rest : List (List ℕ)) (b : Bool) → (slice_get words 0 ≡ Some rule.name) × (rule.files < length words) → rest ≡ drop (rule.files + 1) words
+    → (IsTrue b → SuitsAll rule rest) × (SuitsAll rule rest → IsTrue b) → (IsTrue b → IsShaped rule words) × (IsShaped rule words → IsTrue b)
+shaped_by rule words rest b front is test =
+    let start : rule.files + 1 ≡ 1 + rule.files = omega arith in
+    let same : rest ≡ later rule words = is ∙ ap (λ n. drop n words) start in (
+      λ t. let suited = subst (SuitsAll rule) same (test.0 t) in record { named = front.0; files = front.1; known = suited.0; given = suited.1 },
+      λ shaped. test.1 (subst (SuitsAll rule) (sym same) (shaped.known, shaped.given)),
+    )
+
+-- the first word is the name
+pub named_by : {A : Type 0} (text : A → List ℕ) (xs : List A) (w : A) (seen name : List ℕ) (files : ℕ) (b : Bool) → files < length xs → w ≡ get_or xs 0 w → seen ≡ text w → b ≡ bytes_eq seen name
+    → (IsTrue b → (slice_get (map text xs) 0 ≡ Some name) × (files < length xs)) × ((slice_get (map text xs) 0 ≡ Some name) × (files < length xs) → IsTrue b)
+named_by text xs w seen name files b few at is test =
+    let some : 0 < length xs = omega arith in
+    let first : slice_get (map text xs) 0 ≡ Some seen = slice_get-map text xs 0 ∙ ap (option_map text) (slice_get_read xs (length xs) 0 w refl some at) ∙ ap Some (sym is) in (
+      λ t. (first ∙ ap Some ((bytes_eq-Decides seen name).0 (sym test ∙ t)), few),
+      λ named. test ∙ (bytes_eq-Decides seen name).1 (same_Some seen name (sym first ∙ named.0)),
+    )
+
+-- ---- commands without keys
+
+no_more : (rule : CommandRule) (words : List (List ℕ)) → rule.keys ≡ [] → All (λ word. Any (Suits word) rule.keys) words → ¬ (0 < length words)
+no_more rule words no_keys known some = let any = known 0 [] some in let few : any.0 < length rule.keys = any.2 in omega (arith, few, ap length no_keys)
+
+pub restore_shape : (words : List (List ℕ)) → IsRestore words → IsShaped restore_rule words
+restore_shape words (netlist, dump, e) = subst (IsShaped restore_rule) (sym e) record {
+  named = refl;
+  files = lit< tt;
+  known = All-nil (λ word. Any (Suits word) []);
+  given = All-nil (IsGivenRight []);
+}
+
+pub shape_restore : (words : List (List ℕ)) → IsShaped restore_rule words → IsRestore words
+shape_restore [] shaped = absurd (omega (arith, shaped.files))
+shape_restore (a ∷ []) shaped = absurd (omega (arith, shaped.files))
+shape_restore (a ∷ b ∷ []) shaped = absurd (omega (arith, shaped.files))
+shape_restore (a ∷ b ∷ d ∷ []) shaped = (b, d, ap (λ w. w ∷ b ∷ d ∷ []) (same_Some a (codes "restore") shaped.named))
+shape_restore (a ∷ b ∷ d ∷ e ∷ more) shaped = absurd (no_more restore_rule (e ∷ more) refl shaped.known (omega arith))
+
+pub print_shape : (words : List (List ℕ)) → IsPrint words → IsShaped print_rule words
+print_shape words (netlist, e) = subst (IsShaped print_rule) (sym e) record {
+  named = refl;
+  files = lit< tt;
+  known = All-nil (λ word. Any (Suits word) []);
+  given = All-nil (IsGivenRight []);
+}
+
+pub shape_print : (words : List (List ℕ)) → IsShaped print_rule words → IsPrint words
+shape_print [] shaped = absurd (omega (arith, shaped.files))
+shape_print (a ∷ []) shaped = absurd (omega (arith, shaped.files))
+shape_print (a ∷ b ∷ []) shaped = (b, ap (λ w. w ∷ b ∷ []) (same_Some a (codes "print") shaped.named))
+shape_print (a ∷ b ∷ d ∷ more) shaped = absurd (no_more print_rule (d ∷ more) refl shaped.known (omega arith))
+
+-- ---- words have one shape
+
+pub one_name : (rule other : CommandRule) (words : List (List ℕ)) → IsShaped rule words → IsShaped other words → length rule.name ≡ length other.name
+one_name rule other words shaped again = ap length (same_Some rule.name other.name (sym shaped.named ∙ again.named))
+
+pub restore_or_simulate : (words : List (List ℕ)) → IsRestore words → ¬ IsShaped simulate_rule words
+restore_or_simulate words restore simulate = let e : ◌≡◌ {A = ℕ} 7 8 = one_name restore_rule simulate_rule words (restore_shape words restore) simulate in omega arith
+
+pub print_or_simulate : (words : List (List ℕ)) → IsPrint words → ¬ IsShaped simulate_rule words
+print_or_simulate words print simulate = let e : ◌≡◌ {A = ℕ} 5 8 = one_name print_rule simulate_rule words (print_shape words print) simulate in omega arith
+
+pub restore_command : (words : List (List ℕ)) → IsRestore words → IsCommand words
+restore_command words restore = (0, restore_rule, lit< tt, refl, restore_shape words restore)
+
+pub simulate_command : (words : List (List ℕ)) → IsShaped simulate_rule words → IsCommand words
+simulate_command words simulate = (1, simulate_rule, lit< tt, refl, simulate)
+
+pub print_command : (words : List (List ℕ)) → IsPrint words → IsCommand words
+print_command words print = (2, print_rule, lit< tt, refl, print_shape words print)
+
+-- the shape of a command is that of one of the three
+pub command_cases : (words : List (List ℕ)) → IsCommand words → IsRestore words ⊎ (IsShaped simulate_rule words ⊎ IsPrint words)
+command_cases words (zero, rule, h, e, shaped) = inl (shape_restore words (subst (λ r. IsShaped r words) (sym e) shaped))
+command_cases words (suc zero, rule, h, e, shaped) = inr (inl (subst (λ r. IsShaped r words) (sym e) shaped))
+command_cases words (suc (suc zero), rule, h, e, shaped) = inr (inr (shape_print words (subst (λ r. IsShaped r words) (sym e) shaped)))
+command_cases words (suc (suc (suc k)), rule, h, e, shaped) = absurd (omega arith)
+
+pub no_shape : (words : List (List ℕ)) → ¬ IsShaped restore_rule words → ¬ IsShaped simulate_rule words → ¬ IsShaped print_rule words → ¬ IsCommand words
+no_shape words no_restore no_simulate no_print is =
+    ⊎_elim (λ restore. no_restore (restore_shape words restore)) (λ rest. ⊎_elim no_simulate (λ print. no_print (print_shape words print)) rest) (command_cases words is)

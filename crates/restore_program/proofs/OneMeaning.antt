@@ -1,0 +1,187 @@
+-- Words have one meaning at most.
+use Rattle.std.proofs.Common.{◌≡◌, ◌<◌, ◌+◌, ◌-◌, ◌^◌, ◌⊎◌, ℕ, List, [], zero, suc, length, get_or, Some, Result, Ok, Err, refl, sym, ap, subst, ◌∙◌, ⊎_elim, lit<, arith}
+use Rattle.std.specs.List.{slice_get}
+use Rattle.std.proofs.lemmas.Bool.{cases_order}
+use Rattle.std.proofs.lemmas.Fmt.{decimal_injective}
+use Rattle.std.proofs.lemmas.List.{get_or-drop, length-drop}
+use Rattle.std.proofs.lemmas.Option.{slice_get_within, get_or_from_slice_get, same_Some}
+use Rattle.restore_program.specs.declared.words.Settings.{Settings}
+use Rattle.restore_program.specs.declared.words.Settings.TheVariants as settings
+use Rattle.restore_program.specs.declared.words.WordRefusal.{WordRefusal}
+use Rattle.restore_program.specs.declared.words.WordRefusal.TheVariants as refusals
+use Rattle.restore_program.specs.Words.{CommandRule, Gives, GivesAt, IsBad, IsBadAt, IsBadNumber, IsCommand, IsFirstBad, IsFor, IsGiven, IsGivenRight, IsNumber, IsPrint, IsRestore, IsShaped, KeyRule, Simulates, Takes, cycles_rule, later, names, number, print_rule, restore_rule, seed_rule, simulate_rule, trace_rule}
+use Rattle.restore_program.specs.WordMeaning.{Means}
+use Rattle.restore_program.proofs.CommandWords.{print_or_restore}
+use Rattle.restore_program.proofs.GivenValues.{same_gift}
+use Rattle.restore_program.proofs.CommandShapes.{print_command, print_or_simulate, restore_command, restore_or_simulate, simulate_command}
+
+-- ---- a key is given in one place
+
+-- a word behind the files, by its place among those
+pub read_behind : (rule : CommandRule) (words : List (List ℕ)) (place : ℕ) (word d : List ℕ) → rule.files < place → slice_get words place ≡ Some word → get_or (later rule words) (place - (1 + rule.files)) d ≡ word
+read_behind rule words place word d behind at =
+    let is : 1 + rule.files + (place - (1 + rule.files)) ≡ place = omega arith in
+    get_or-drop (1 + rule.files) words (place - (1 + rule.files)) d ∙ ap (λ k. get_or words k d) is ∙ get_or_from_slice_get words place word d at
+
+not_before : (rule : CommandRule) (words : List (List ℕ)) (key : KeyRule) (place next : ℕ) (value more : List ℕ) → IsGivenRight (later rule words) key → GivesAt rule words place key value → GivesAt rule words next key more
+    → ¬ (place < next)
+not_before rule words key place next value more right first second less =
+    let within : next < length words = slice_get_within words next second.word second.at in
+    let start : ℕ = 1 + rule.files in
+    let behind : rule.files < place = first.behind in
+    let inside : next - start < length (later rule words) = rw length-drop (omega arith) in
+    right.once (place - start) (next - start) [] (omega arith) inside (
+      subst (IsFor key) (sym (read_behind rule words place first.word [] first.behind first.at)) (value, first.gives),
+      subst (IsFor key) (sym (read_behind rule words next second.word [] second.behind second.at)) (more, second.gives),
+    )
+
+pub same_place : (rule : CommandRule) (words : List (List ℕ)) (key : KeyRule) (place next : ℕ) (value more : List ℕ) → IsGivenRight (later rule words) key → GivesAt rule words place key value → GivesAt rule words next key more → place ≡ next
+same_place rule words key place next value more right first second =
+    ⊎_elim
+    (λ (same : place ≡ next). same)
+    (λ (apart : (place < next) ⊎ (next < place)).
+    ⊎_elim
+    (λ (less : place < next). absurd (not_before rule words key place next value more right first second less))
+    (λ (less : next < place). absurd (not_before rule words key next place more value right second first less))
+    apart)
+    (cases_order place next)
+
+pub same_value : (rule : CommandRule) (words : List (List ℕ)) (key : KeyRule) (place next : ℕ) (value more : List ℕ) → IsGivenRight (later rule words) key → GivesAt rule words place key value → GivesAt rule words next key more → value ≡ more
+same_value rule words key place next value more right first second =
+    let places = same_place rule words key place next value more right first second in
+    let word : first.word ≡ second.word = same_Some first.word second.word (sym first.at ∙ ap (slice_get words) places ∙ second.at) in
+    (same_gift second.word key.name value key.name more (subst (λ w. Gives w key.name value) word first.gives) second.gives).1
+
+-- ---- numbers
+
+same_number : (least most : ℕ) (value more : List ℕ) (n m : ℕ) → most < 2 ^ 64 → value ≡ more → IsNumber (number least most) value n → IsNumber (number least most) more m → n ≡ m
+same_number least most value more n m fits e is other = decimal_injective n m (omega (arith, is.2)) (omega (arith, other.2)) (sym is.0 ∙ e ∙ other.0)
+
+pub one_number : (rule : CommandRule) (words : List (List ℕ)) (key : KeyRule) (least most n m : ℕ) → IsGivenRight (later rule words) key → key.takes ≡ number least most → most < 2 ^ 64 → IsGiven rule words key n → IsGiven rule words key m
+    → n ≡ m
+one_number rule words key least most n m right takes fits (place, value, gives, is) (next, more, again, other) =
+    let values = same_value rule words key place next value more right gives again in
+    same_number least most value more n m fits values (subst (λ t. IsNumber t value n) takes is) (subst (λ t. IsNumber t more m) takes other)
+
+-- a number that its key may have is not bad
+not_bad : (takes : Takes) (value : List ℕ) (n : ℕ) → IsNumber takes value n → ¬ IsBad takes value
+not_bad (number least most) value n is bad = bad n is
+not_bad names value n is bad = bad
+
+pub good_number : (rule : CommandRule) (words : List (List ℕ)) (key : KeyRule) (n place : ℕ) (value : List ℕ) → IsGivenRight (later rule words) key → IsGiven rule words key n → GivesAt rule words place key value → ¬ IsBad key.takes value
+good_number rule words key n place value right (next, more, gives, is) here bad =
+    not_bad key.takes more n is (subst (IsBad key.takes) (same_value rule words key place next value more right here gives) bad)
+
+-- ---- one first bad number
+
+pub same_first : (rule : CommandRule) (words : List (List ℕ)) (place next : ℕ) → IsFirstBad rule words place → IsFirstBad rule words next → place ≡ next
+same_first rule words place next first second =
+    ⊎_elim
+    (λ (same : place ≡ next). same)
+    (λ (apart : (place < next) ⊎ (next < place)). ⊎_elim (λ (less : place < next). absurd (second.1 place less first.0)) (λ (less : next < place). absurd (first.1 next less second.0)) apart)
+    (cases_order place next)
+
+-- only a `simulate` has numbers
+pub bad_simulate : (words : List (List ℕ)) (place : ℕ) → IsBadNumber words place → IsShaped simulate_rule words × IsFirstBad simulate_rule words place
+bad_simulate words place (zero, rule, h, e, both) = absurd (no_keys words place (subst (λ r. IsShaped r words × IsFirstBad r words place) (sym e) both).1.0)
+  where
+    no_keys : (words : List (List ℕ)) (place : ℕ) → ¬ IsBadAt restore_rule words place
+    no_keys words place bad = let few : bad.0 < 0 = bad.2 in omega arith
+bad_simulate words place (suc zero, rule, h, e, both) = subst (λ r. IsShaped r words × IsFirstBad r words place) (sym e) both
+bad_simulate words place (suc (suc zero), rule, h, e, both) = absurd (no_keys words place (subst (λ r. IsShaped r words × IsFirstBad r words place) (sym e) both).1.0)
+  where
+    no_keys : (words : List (List ℕ)) (place : ℕ) → ¬ IsBadAt print_rule words place
+    no_keys words place bad = let few : bad.0 < 0 = bad.2 in omega arith
+bad_simulate words place (suc (suc (suc k)), rule, h, e, both) = absurd (omega arith)
+
+pub bad_command : (words : List (List ℕ)) (place : ℕ) → IsBadNumber words place → IsCommand words
+bad_command words place bad = simulate_command words (bad_simulate words place bad).0
+
+-- ---- the keys of `simulate`
+
+pub given_cycles : (words : List (List ℕ)) → IsShaped simulate_rule words → IsGivenRight (later simulate_rule words) cycles_rule
+given_cycles words shaped = shaped.given 0 cycles_rule (lit< tt)
+
+pub given_seed : (words : List (List ℕ)) → IsShaped simulate_rule words → IsGivenRight (later simulate_rule words) seed_rule
+given_seed words shaped = shaped.given 1 seed_rule (lit< tt)
+
+pub given_trace : (words : List (List ℕ)) → IsShaped simulate_rule words → IsGivenRight (later simulate_rule words) trace_rule
+given_trace words shaped = shaped.given 2 trace_rule (lit< tt)
+
+pub simulate_or_bad : (words : List (List ℕ)) (netlist : List ℕ) (cycles seed trace place : ℕ) → Simulates words netlist cycles seed trace → ¬ IsBadAt simulate_rule words place
+simulate_or_bad words netlist cycles seed trace place is (zero, key, h, e, (value, gives, bad)) =
+    let bad_there = subst (λ k. GivesAt simulate_rule words place k value × IsBad k.takes value) (sym e) (gives, bad) in
+    good_number simulate_rule words cycles_rule cycles place value (given_cycles words is.shaped) is.has_cycles bad_there.0 bad_there.1
+simulate_or_bad words netlist cycles seed trace place is (suc zero, key, h, e, (value, gives, bad)) =
+    let bad_there = subst (λ k. GivesAt simulate_rule words place k value × IsBad k.takes value) (sym e) (gives, bad) in
+    good_number simulate_rule words seed_rule seed place value (given_seed words is.shaped) is.has_seed bad_there.0 bad_there.1
+simulate_or_bad words netlist cycles seed trace place is (suc (suc zero), key, h, e, (value, gives, bad)) = subst (λ k. IsBad k.takes value) (sym e) bad
+simulate_or_bad words netlist cycles seed trace place is (suc (suc (suc k)), key, h, e, more) = absurd (omega arith)
+
+pub one_simulation : (words : List (List ℕ)) (netlist more : List ℕ) (cycles seed trace cycles' seed' trace' : ℕ) → Simulates words netlist cycles seed trace → Simulates words more cycles' seed' trace'
+    → (cycles ≡ cycles') × (seed ≡ seed') × (trace ≡ trace')
+one_simulation words netlist more cycles seed trace cycles' seed' trace' is other = (
+  one_number simulate_rule words cycles_rule 1 8192 cycles cycles' (given_cycles words is.shaped) refl (lit< tt) is.has_cycles other.has_cycles,
+  one_number simulate_rule words seed_rule 0 (2 ^ 64 - 1) seed seed' (given_seed words is.shaped) refl (lit< tt) is.has_seed other.has_seed,
+  same_place simulate_rule words trace_rule trace trace' is.has_trace.0 other.has_trace.0 (given_trace words is.shaped) is.has_trace.1 other.has_trace.1,
+)
+
+same_settings : (cycles seed trace cycles' seed' trace' : ℕ) → (cycles ≡ cycles') × (seed ≡ seed') × (trace ≡ trace') → ◌≡◌ {A = Result Settings WordRefusal} (Ok (settings.Simulate cycles seed trace)) (Ok (settings.Simulate cycles' seed' trace'))
+same_settings cycles seed trace cycles' seed' trace' e = let a = e.0 in let b = e.1 in let d = e.2 in cc
+
+-- words have one meaning at most
+pub one_meaning : (words : List (List ℕ)) (r s : Result Settings WordRefusal) → Means words r → Means words s → r ≡ s
+one_meaning words (Ok settings.Restore) (Ok settings.Restore) is other = refl
+one_meaning words (Ok settings.Restore) (Ok (settings.Simulate cycles seed trace)) is other = absurd (restore_or_simulate words is other.1.shaped)
+one_meaning words (Ok settings.Restore) (Ok settings.Print) is other = absurd (print_or_restore words other is)
+one_meaning words (Ok settings.Restore) (Err refusals.Usage) is other = absurd (other (restore_command words is))
+one_meaning words (Ok settings.Restore) (Err (refusals.Number place)) is other = absurd (restore_or_simulate words is (bad_simulate words place other).0)
+one_meaning words (Ok (settings.Simulate cycles seed trace)) (Ok settings.Restore) is other = absurd (restore_or_simulate words other is.1.shaped)
+one_meaning words (Ok (settings.Simulate cycles seed trace)) (Ok (settings.Simulate cycles' seed' trace')) is other =
+    same_settings cycles seed trace cycles' seed' trace' (one_simulation words is.0 other.0 cycles seed trace cycles' seed' trace' is.1 other.1)
+one_meaning words (Ok (settings.Simulate cycles seed trace)) (Ok settings.Print) is other = absurd (print_or_simulate words other is.1.shaped)
+one_meaning words (Ok (settings.Simulate cycles seed trace)) (Err refusals.Usage) is other = absurd (other (simulate_command words is.1.shaped))
+one_meaning words (Ok (settings.Simulate cycles seed trace)) (Err (refusals.Number place)) is other = absurd (simulate_or_bad words is.0 cycles seed trace place is.1 (bad_simulate words place other).1.0)
+one_meaning words (Ok settings.Print) (Ok settings.Restore) is other = absurd (print_or_restore words is other)
+one_meaning words (Ok settings.Print) (Ok (settings.Simulate cycles seed trace)) is other = absurd (print_or_simulate words is other.1.shaped)
+one_meaning words (Ok settings.Print) (Ok settings.Print) is other = refl
+one_meaning words (Ok settings.Print) (Err refusals.Usage) is other = absurd (other (print_command words is))
+one_meaning words (Ok settings.Print) (Err (refusals.Number place)) is other = absurd (print_or_simulate words is (bad_simulate words place other).0)
+one_meaning words (Err refusals.Usage) (Ok settings.Restore) is other = absurd (is (restore_command words other))
+one_meaning words (Err refusals.Usage) (Ok (settings.Simulate cycles seed trace)) is other = absurd (is (simulate_command words other.1.shaped))
+one_meaning words (Err refusals.Usage) (Ok settings.Print) is other = absurd (is (print_command words other))
+one_meaning words (Err refusals.Usage) (Err refusals.Usage) is other = refl
+one_meaning words (Err refusals.Usage) (Err (refusals.Number place)) is other = absurd (is (bad_command words place other))
+one_meaning words (Err (refusals.Number place)) (Ok settings.Restore) is other = absurd (restore_or_simulate words other (bad_simulate words place is).0)
+one_meaning words (Err (refusals.Number place)) (Ok (settings.Simulate cycles seed trace)) is other = absurd (simulate_or_bad words other.0 cycles seed trace place other.1 (bad_simulate words place is).1.0)
+one_meaning words (Err (refusals.Number place)) (Ok settings.Print) is other = absurd (print_or_simulate words other (bad_simulate words place is).0)
+one_meaning words (Err (refusals.Number place)) (Err refusals.Usage) is other = absurd (other (bad_command words place is))
+one_meaning words (Err (refusals.Number place)) (Err (refusals.Number next)) is other =
+    ap (λ p. Err (refusals.Number p)) (same_first simulate_rule words place next (bad_simulate words place is).1 (bad_simulate words next other).1)
+
+-- ---- each answer has its cause
+
+abbrev pub ComesWith : Result Settings WordRefusal → Result Settings WordRefusal → Type 0 → Type 0
+ComesWith r s P = (r ≡ s → P) × (P → r ≡ s)
+
+-- what the contract says of an answer
+abbrev pub IsExact : List (List ℕ) → Result Settings WordRefusal → Type 0
+IsExact words r = record {
+  restore : ComesWith r (Ok settings.Restore) (IsRestore words);
+  simulate : (cycles seed trace : ℕ) → ComesWith r (Ok (settings.Simulate cycles seed trace)) ((netlist : List ℕ) × Simulates words netlist cycles seed trace);
+  print : ComesWith r (Ok settings.Print) (IsPrint words);
+  usage : ComesWith r (Err refusals.Usage) (¬ IsCommand words);
+  number : (place : ℕ) → ComesWith r (Err (refusals.Number place)) (IsBadNumber words place);
+}
+
+exactly : (words : List (List ℕ)) (r s : Result Settings WordRefusal) → Means words r → ComesWith r s (Means words s)
+exactly words r s is = (λ e. subst (Means words) e is, λ other. one_meaning words r s is other)
+
+pub exact_answer : (words : List (List ℕ)) (r : Result Settings WordRefusal) → Means words r → IsExact words r
+exact_answer words r is = record {
+  restore = exactly words r (Ok settings.Restore) is;
+  simulate = λ cycles seed trace. exactly words r (Ok (settings.Simulate cycles seed trace)) is;
+  print = exactly words r (Ok settings.Print) is;
+  usage = exactly words r (Err refusals.Usage) is;
+  number = λ place. exactly words r (Err (refusals.Number place)) is;
+}

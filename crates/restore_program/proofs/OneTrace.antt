@@ -1,0 +1,188 @@
+-- A list of names has one trace at most.
+use Rattle.std.proofs.Common.{ℕ, ◌≡◌, ◌<◌, ◌≤◌, ◌⊎◌, ◌+◌, Option, Some, List, [], ◌∷◌, ◌++◌, length, map, get_or, ⊎_elim, inl, inr, arith, refl, sym, ap, subst, ◌∙◌}
+use Rattle.std.specs.List.{Contains, slice_get}
+use Rattle.std.proofs.Math.Seq.{get_or-append_seam}
+use Rattle.std.proofs.lemmas.List.{get_or_append_left, length-append}
+use Rattle.std.proofs.lemmas.List.Elements.{Contains-append_right}
+use Rattle.std.proofs.lemmas.Option.{get_or_from_slice_get, slice_get_within}
+use Rattle.sr_model.specs.declared.cells.Sig.{Sig}
+use Rattle.sr_model.proofs.Members.{Contains-cases, Contains-here, not_in_nil}
+use Rattle.netlist.specs.Circuit.{Circuit, IsCircuit}
+use Rattle.dump_reader.specs.Grammar.{block_count}
+use Rattle.dump_reader.specs.Print.{printed}
+use Rattle.restore_program.specs.declared.status.Status.{Status}
+use Rattle.restore_program.specs.declared.status.Status.TheVariants as statuses
+use Rattle.restore_program.specs.Reply.{unknown_trace_line, trace_twice_line}
+use Rattle.restore_program.specs.Tracing.{AreNamed, IsTraceText, IsTwiceFirst, IsUnknownFirst, OnTrace, StandsNext, many_cells, name_twice, names_in, traced, unknown_name}
+use Rattle.restore_program.proofs.OneRun.{one_trace}
+
+-- ---- the signals of names
+
+module _ (c : Circuit) where
+  abbrev name_of_signal : Sig → Option (List ℕ)
+  name_of_signal sig = slice_get c.names sig.0
+
+  -- a name that is listed is that of a signal
+  its-signal : (names : List (List ℕ)) (sigs : List Sig) → map name_of_signal sigs ≡ map Some names → (name : List ℕ) → Contains names name → (sig : Sig) × (name_of_signal sig ≡ Some name)
+  its-signal [] sigs same name h = absurd (not_in_nil name h)
+  its-signal (first ∷ names) [] same name h = absurd (cc)
+  its-signal (first ∷ names) (sig ∷ sigs) same name h =
+      ⊎_elim
+      (λ (here : first ≡ name). let is : name_of_signal sig ≡ Some first = cc in (sig, is ∙ ap Some here))
+      (λ (later : Contains names name). let rest : map name_of_signal sigs ≡ map Some names = cc in its-signal names sigs rest name later)
+      (Contains-cases first names name h)
+
+  -- each of the signals has a name
+  has-name : (names : List (List ℕ)) (sigs : List Sig) → map name_of_signal sigs ≡ map Some names → (sig : Sig) → Contains sigs sig → (name : List ℕ) × (name_of_signal sig ≡ Some name)
+  has-name names [] same sig h = absurd (not_in_nil sig h)
+  has-name [] (first ∷ sigs) same sig h = absurd (cc)
+  has-name (name ∷ names) (first ∷ sigs) same sig h =
+      ⊎_elim
+      (λ (here : first ≡ sig). let is : name_of_signal first ≡ Some name = cc in (name, ap name_of_signal (sym here) ∙ is))
+      (λ (later : Contains sigs sig). let rest : map name_of_signal sigs ≡ map Some names = cc in has-name names sigs rest sig later)
+      (Contains-cases first sigs sig h)
+
+  module _ (is : IsCircuit c) where
+    one-signal : (a b : Sig) (name : List ℕ) → name_of_signal a ≡ Some name → name_of_signal b ≡ Some name → a ≡ b
+    one-signal a b name first second = ap (λ n. record { 0 = n }) (is.distinct a.0 b.0 name first second)
+
+    -- names have one list of signals
+    same-signals : (names : List (List ℕ)) (sigs others : List Sig) → map name_of_signal sigs ≡ map Some names → map name_of_signal others ≡ map Some names → sigs ≡ others
+    same-signals [] [] [] first second = refl
+    same-signals [] (a ∷ sigs) others first second = absurd (cc)
+    same-signals [] [] (b ∷ others) first second = absurd (cc)
+    same-signals (name ∷ names) [] others first second = absurd (cc)
+    same-signals (name ∷ names) (a ∷ sigs) [] first second = absurd (cc)
+    same-signals (name ∷ names) (a ∷ sigs) (b ∷ others) first second =
+        let is_a : name_of_signal a ≡ Some name = cc in
+        let is_b : name_of_signal b ≡ Some name = cc in
+        let rest : map name_of_signal sigs ≡ map Some names = cc in
+        let rest_too : map name_of_signal others ≡ map Some names = cc in
+        let here : a ≡ b = one-signal a b name is_a is_b in
+        let later : sigs ≡ others = same-signals names sigs others rest rest_too in
+        cc
+
+    signal-within : (names : List (List ℕ)) (sigs : List Sig) → AreNamed c names sigs → (sig : Sig) → Contains sigs sig → sig.0 < length c.drivers
+    signal-within names sigs named sig h =
+        let name : (name : List ℕ) × (name_of_signal sig ≡ Some name) = has-name names sigs named.each sig h in
+        subst (λ n. sig.0 < n) is.one_name_each (slice_get_within c.names sig.0 name.0 name.1)
+
+  -- ---- the first wrong name
+
+  listed : (names : List (List ℕ)) (sigs : List Sig) → AreNamed c names sigs → (name : List ℕ) → Contains names name → Contains c.names name
+  listed names sigs named name h =
+      let found : (sig : Sig) × (name_of_signal sig ≡ Some name) = its-signal names sigs named.each name h in
+      (found.0.0, slice_get_within c.names found.0.0 name found.1, get_or_from_slice_get c.names found.0.0 name name found.1)
+
+  -- behind these names, a name is that of no signal or stands among them
+  abbrev IsWrong : List (List ℕ) → List ℕ → Type 0
+  IsWrong before name = ¬ Contains c.names name ⊎ Contains before name
+
+  -- names of signals, each once, have none that is wrong
+  none-unknown : (names : List (List ℕ)) (sigs : List Sig) (before : List (List ℕ)) (name : List ℕ) (after : List (List ℕ)) → AreNamed c names sigs → names ≡ before ++ name ∷ after → Contains c.names name
+  none-unknown names sigs before name after named whole =
+      listed names sigs named name (subst (λ xs. Contains xs name) (sym whole) (Contains-append_right before (name ∷ after) name (Contains-here name after)))
+
+  none-twice : (names : List (List ℕ)) (sigs : List Sig) (before : List (List ℕ)) (name : List ℕ) (after : List (List ℕ)) → AreNamed c names sigs → names ≡ before ++ name ∷ after → ¬ Contains before name
+  none-twice names sigs before name after named whole (k, below, at) =
+      let size : length names ≡ length before + length (name ∷ after) = ap length whole ∙ length-append before (name ∷ after) in
+      let first : get_or names k name ≡ name = ap (λ xs. get_or xs k name) whole ∙ get_or_append_left before (name ∷ after) name k below ∙ at in
+      let second : get_or names (length before) name ≡ name = ap (λ xs. get_or xs (length before) name) whole ∙ get_or-append_seam before name after name in
+      named.once k (length before) name below (omega (arith, size)) (first ∙ sym second)
+
+  none-wrong : (names : List (List ℕ)) (sigs : List Sig) (before : List (List ℕ)) (name : List ℕ) (after : List (List ℕ)) → AreNamed c names sigs → names ≡ before ++ name ∷ after → ¬ IsWrong before name
+  none-wrong names sigs before name after named whole (inl unknown) = unknown (none-unknown names sigs before name after named whole)
+  none-wrong names sigs before name after named whole (inr twice) = none-twice names sigs before name after named whole twice
+
+-- two partings of a list are one, or one is longer
+data Parted (a b : List (List ℕ)) (x y : List ℕ) : Type 0 where
+  at_once : a ≡ b → x ≡ y → Parted a b x y
+  sooner : (more : List (List ℕ)) → b ≡ a ++ x ∷ more → Parted a b x y
+  later : (more : List (List ℕ)) → a ≡ b ++ y ∷ more → Parted a b x y
+
+parted : (a b : List (List ℕ)) (x y : List ℕ) (xs ys : List (List ℕ)) → a ++ x ∷ xs ≡ b ++ y ∷ ys → Parted a b x y
+parted [] [] x y xs ys e = at_once refl (cc)
+parted [] (z ∷ b) x y xs ys e = sooner b (cc)
+parted (z ∷ a) [] x y xs ys e = later a (cc)
+parted (z ∷ a) (u ∷ b) x y xs ys e =
+    let same : z ≡ u = cc in
+    let rest : a ++ x ∷ xs ≡ b ++ y ∷ ys = cc in
+    cons same (parted a b x y xs ys rest)
+  where
+    cons : z ≡ u → Parted a b x y → Parted (z ∷ a) (u ∷ b) x y
+    cons same (at_once e is) = at_once (cc) is
+    cons same (sooner more e) = sooner more (cc)
+    cons same (later more e) = later more (cc)
+
+-- the first wrong name is one
+module _ (c : Circuit) (names : List (List ℕ)) (x y : List ℕ) (a b : List (List ℕ)) (first : StandsNext c names x a) (second : StandsNext c names y b) (wrong : IsWrong c a x) (wrong_too : IsWrong c b y) where
+  pub one-wrong : (a ≡ b) × (x ≡ y)
+  one-wrong = by (parted a b x y first.after second.after (sym first.whole ∙ second.whole))
+    where
+      by : Parted a b x y → (a ≡ b) × (x ≡ y)
+      by (at_once same is) = (same, is)
+      by (sooner more e) = absurd (none-wrong c b second.sigs a x more second.named e wrong)
+      by (later more e) = absurd (none-wrong c a first.sigs b y more first.named e wrong_too)
+
+module _ (c : Circuit) (names : List (List ℕ)) where
+  one-unknown : (x y : List ℕ) → IsUnknownFirst c names x → IsUnknownFirst c names y → x ≡ y
+  one-unknown x y (a, first, unknown) (b, second, unknown_too) = (one-wrong c names x y a b first second (inl unknown) (inl unknown_too)).1
+
+  one-twice : (x y : List ℕ) → IsTwiceFirst c names x → IsTwiceFirst c names y → x ≡ y
+  one-twice x y (a, first, twice) (b, second, twice_too) = (one-wrong c names x y a b first second (inr twice) (inr twice_too)).1
+
+  -- a name that stands twice is that of a signal
+  unknown-or-twice : (x y : List ℕ) → IsUnknownFirst c names x → ¬ IsTwiceFirst c names y
+  unknown-or-twice x y (a, first, unknown) (b, second, twice) =
+      let same = one-wrong c names x y a b first second (inl unknown) (inr twice) in
+      unknown (subst (Contains c.names) (sym same.1) (listed c b second.sigs second.named y twice))
+
+  unknown-or-named : (x : List ℕ) (sigs : List Sig) → AreNamed c names sigs → ¬ IsUnknownFirst c names x
+  unknown-or-named x sigs named (a, first, unknown) = none-wrong c names sigs a x first.after named first.whole (inl unknown)
+
+  twice-or-named : (x : List ℕ) (sigs : List Sig) → AreNamed c names sigs → ¬ IsTwiceFirst c names x
+  twice-or-named x sigs named (a, first, twice) = none-wrong c names sigs a x first.after named first.whole (inr twice)
+
+-- ---- one trace
+
+-- no count of cells is both too many and not
+not-many : (n : ℕ) → 4194304 < n → n ≤ 4194304 → ⊥
+not-many n many few = omega (arith, many, few)
+
+one-text : (c : Circuit) (seed cycles : ℕ) (sigs : List Sig) (text other : List ℕ) → IsCircuit c → ((s : Sig) → Contains sigs s → s.0 < length c.drivers) → IsTraceText c seed cycles sigs text → IsTraceText c seed cycles sigs other
+    → text ≡ other
+one-text c seed cycles sigs text other is within (a, v, first, sim, e) (b, w, second, sim_too, e_too) =
+    e ∙ ap (λ rows. printed c.names (record { cycles = cycles; rows = rows })) (one_trace c seed cycles a b v w sigs is first second sim sim_too within) ∙ sym e_too
+
+same-text : (c : Circuit) (seed cycles : ℕ) (names : List (List ℕ)) (sigs others : List Sig) (text other : List ℕ) → IsCircuit c → AreNamed c names sigs → AreNamed c names others → IsTraceText c seed cycles sigs text
+    → IsTraceText c seed cycles others other → text ≡ other
+same-text c seed cycles names sigs others text other is named named_too first second =
+    let same : sigs ≡ others = same-signals c is names sigs others named.each named_too.each in
+    one-text c seed cycles others text other is (signal-within c is names others named_too) (subst (λ xs. IsTraceText c seed cycles xs text) same first) second
+
+pub one_on_trace : (c : Circuit) (cycles seed : ℕ) (list text other : List ℕ) (status last : Status) → IsCircuit c → OnTrace c cycles seed list text status → OnTrace c cycles seed list other last → (text ≡ other) × (status ≡ last)
+one_on_trace c cycles seed list text other status last is (unknown_name x unknown) (unknown_name y unknown_too) = (ap unknown_trace_line (one-unknown c (names_in list) x y unknown unknown_too), refl)
+one_on_trace c cycles seed list text other status last is (unknown_name x unknown) (name_twice y twice) = absurd (unknown-or-twice c (names_in list) x y unknown twice)
+one_on_trace c cycles seed list text other status last is (unknown_name x unknown) (many_cells sigs named many) = absurd (unknown-or-named c (names_in list) x sigs named unknown)
+one_on_trace c cycles seed list text other status last is (unknown_name x unknown) (traced sigs _ named few traces) = absurd (unknown-or-named c (names_in list) x sigs named unknown)
+one_on_trace c cycles seed list text other status last is (name_twice x twice) (unknown_name y unknown) = absurd (unknown-or-twice c (names_in list) y x unknown twice)
+one_on_trace c cycles seed list text other status last is (name_twice x twice) (name_twice y twice_too) = (ap trace_twice_line (one-twice c (names_in list) x y twice twice_too), refl)
+one_on_trace c cycles seed list text other status last is (name_twice x twice) (many_cells sigs named many) = absurd (twice-or-named c (names_in list) x sigs named twice)
+one_on_trace c cycles seed list text other status last is (name_twice x twice) (traced sigs _ named few traces) = absurd (twice-or-named c (names_in list) x sigs named twice)
+one_on_trace c cycles seed list text other status last is (many_cells sigs named many) (unknown_name y unknown) = absurd (unknown-or-named c (names_in list) y sigs named unknown)
+one_on_trace c cycles seed list text other status last is (many_cells sigs named many) (name_twice y twice) = absurd (twice-or-named c (names_in list) y sigs named twice)
+one_on_trace c cycles seed list text other status last is (many_cells sigs named many) (many_cells others named_too many_too) = (refl, refl)
+one_on_trace c cycles seed list text other status last is (many_cells sigs named many) (traced others _ named_too few traces) = absurd (not-many (block_count (length c.drivers) cycles) many few)
+one_on_trace c cycles seed list text other status last is (traced sigs _ named few traces) (unknown_name y unknown) = absurd (unknown-or-named c (names_in list) y sigs named unknown)
+one_on_trace c cycles seed list text other status last is (traced sigs _ named few traces) (name_twice y twice) = absurd (twice-or-named c (names_in list) y sigs named twice)
+one_on_trace c cycles seed list text other status last is (traced sigs _ named few traces) (many_cells others named_too many) = absurd (not-many (block_count (length c.drivers) cycles) many few)
+one_on_trace c cycles seed list text other status last is (traced sigs t named few traces) (traced others u named_too few_too traces_too) =
+    (same-text c seed cycles (names_in list) sigs others t u is named named_too traces traces_too, refl)
+
+-- the trace of names of signals, each once, and of few enough cells
+pub traced_done : (c : Circuit) (cycles seed : ℕ) (list text : List ℕ) (status : Status) (sigs : List Sig) → AreNamed c (names_in list) sigs → block_count (length c.drivers) cycles ≤ 4194304 → OnTrace c cycles seed list text status
+    → status ≡ statuses.Done
+traced_done c cycles seed list text status sigs named few (unknown_name x unknown) = absurd (unknown-or-named c (names_in list) x sigs named unknown)
+traced_done c cycles seed list text status sigs named few (name_twice x twice) = absurd (twice-or-named c (names_in list) x sigs named twice)
+traced_done c cycles seed list text status sigs named few (many_cells others _ many) = absurd (not-many (block_count (length c.drivers) cycles) many few)
+traced_done c cycles seed list text status sigs named few (traced others _ _ _ traces) = refl

@@ -1,0 +1,28 @@
+use Rattle.std.proofs.Common.{List, ℕ, map, Ok, Err, Global, sym, ◌∙◌}
+use Rattle.std.specs.String.{string_bytes}
+use Rattle.std.proofs.lemmas.Bool.{false≢true}
+use Rattle.restore_program.specs.declared.words.Settings.TheVariants as settings
+use Rattle.restore_program.specs.declared.words.WordRefusal.TheVariants as refusals
+use Rattle.restore_program.proofs.OneMeaning.{exact_answer}
+use Rattle.restore_program.proofs.CommandShapes.{no_shape, shape_print, shape_restore}
+use Rattle.restore_program.proofs.words.read_words.Goals as goal
+
+pub returns-then-is_shaped : goal.returns-then-is_shaped
+returns-then-is_shaped c =
+    let words : List (List ℕ) = map (string_bytes {Z = Global}) c.args.words.now in
+    exact_answer words (Ok settings.Restore) (shape_restore words (c.is_shaped.ensures.0 c.if-is_shaped.true))
+
+pub returns-then-is_shaped-2 : goal.returns-then-is_shaped-2
+returns-then-is_shaped-2 c = exact_answer (map (string_bytes {Z = Global}) c.args.words.now) c.read_simulate.result c.read_simulate.ensures
+
+pub returns-then-is_shaped-3 : goal.returns-then-is_shaped-3
+returns-then-is_shaped-3 c =
+    let words : List (List ℕ) = map (string_bytes {Z = Global}) c.args.words.now in
+    exact_answer words (Ok settings.Print) (shape_print words (c.is_shaped-else-is_shaped-2.ensures.0 c.if-is_shaped-3.true))
+
+pub returns-else-is_shaped-3 : goal.returns-else-is_shaped-3
+returns-else-is_shaped-3 c =
+    let words : List (List ℕ) = map (string_bytes {Z = Global}) c.args.words.now in
+    exact_answer words (Err refusals.Usage)
+    (no_shape words (λ shaped. false≢true (sym c.if-is_shaped.false ∙ c.is_shaped.ensures.1 shaped)) (λ shaped. false≢true (sym c.if-is_shaped-2.false ∙ c.is_shaped-else-is_shaped.ensures.1 shaped))
+    (λ shaped. false≢true (sym c.if-is_shaped-3.false ∙ c.is_shaped-else-is_shaped-2.ensures.1 shaped)))

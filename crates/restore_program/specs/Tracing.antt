@@ -1,0 +1,59 @@
+-- What is written of a simulation's trace.
+use Rattle.std.specs.Prelude.{ℕ, ◌≡◌, ◌≢◌, ◌<◌, ◌≤◌, ◌==◌, List, ◌∷◌, ◌++◌, length, map, Some, Contains}
+use Rattle.std.specs.List.{AllPairs, slice_get, slice_split}
+use Rattle.sr_model.specs.declared.cells.Sig.{Sig}
+use Rattle.sr_model.specs.Netlist.{Valuation}
+use Rattle.netlist.specs.Circuit.{Circuit}
+use Rattle.dump_reader.specs.Grammar.{block_count}
+use Rattle.dump_reader.specs.Print.{printed}
+use Rattle.cycle_sim.specs.BitTable.{BitTable}
+use Rattle.cycle_sim.specs.Drawing.{AreDrawn}
+use Rattle.cycle_sim.specs.Simulation.{IsSimulated, traced_rows}
+use Rattle.restore_program.specs.declared.status.Status.{Status}
+use Rattle.restore_program.specs.declared.status.Status.TheVariants as statuses
+use Rattle.restore_program.specs.Reply.{unknown_trace_line, trace_twice_line, many_cells_line}
+
+-- the names of a list, which commas part
+abbrev pub names_in : List ℕ → List (List ℕ)
+names_in list = slice_split (λ b. b == 44) list
+
+-- the names are those of these signals, in their order, and none stands twice
+pub record AreNamed (c : Circuit) (names : List (List ℕ)) (sigs : List Sig) : Type 0 where
+  pub each : map (λ (sig : Sig). slice_get c.names sig.0) sigs ≡ map Some names
+  pub once : AllPairs (λ a b. a ≢ b) names
+
+-- behind names of signals, each once, stands this one
+pub record StandsNext (c : Circuit) (names : List (List ℕ)) (name : List ℕ) (before : List (List ℕ)) : Type 0 where
+  pub sigs : List Sig
+  pub named : AreNamed c before sigs
+  pub after : List (List ℕ)
+  pub whole : names ≡ before ++ name ∷ after
+
+-- the first of the names that is wrong is that of no signal
+abbrev pub IsUnknownFirst : Circuit → List (List ℕ) → List ℕ → Type 0
+IsUnknownFirst c names name = (before : List (List ℕ)) × StandsNext c names name before × ¬ Contains c.names name
+
+-- it stands among those before it
+abbrev pub IsTwiceFirst : Circuit → List (List ℕ) → List ℕ → Type 0
+IsTwiceFirst c names name = (before : List (List ℕ)) × StandsNext c names name before × Contains before name
+
+-- a stimulus of the netlist over so many cycles from a seed
+pub record IsStimulus (c : Circuit) (seed cycles : ℕ) (stimulus : BitTable) : Type 0 where
+  pub inputs : stimulus.width ≡ length c.inputs
+  pub count : stimulus.count ≡ cycles
+  pub drawn : AreDrawn seed stimulus
+
+-- the text of the dump of these signals in the simulated execution
+abbrev pub IsTraceText : Circuit → ℕ → ℕ → List Sig → List ℕ → Type 0
+IsTraceText c seed cycles sigs text =
+    (stimulus : BitTable) × (v : Valuation) × IsStimulus c seed cycles stimulus × IsSimulated c stimulus v
+    × (text ≡ printed c.names (record { cycles = cycles; rows = traced_rows v cycles sigs }))
+
+-- on a netlist, so many cycles, a seed and a list of names
+pub data OnTrace (c : Circuit) (cycles seed : ℕ) (list : List ℕ) : List ℕ → Status → Type 0 where
+  unknown_name : (name : List ℕ) → IsUnknownFirst c (names_in list) name → OnTrace c cycles seed list (unknown_trace_line name) statuses.Words
+  name_twice : (name : List ℕ) → IsTwiceFirst c (names_in list) name → OnTrace c cycles seed list (trace_twice_line name) statuses.Words
+  many_cells : (sigs : List Sig) → AreNamed c (names_in list) sigs → 4194304 < block_count (length c.drivers) cycles
+      → OnTrace c cycles seed list (many_cells_line (block_count (length c.drivers) cycles)) statuses.Dump
+  traced : (sigs : List Sig) (text : List ℕ) → AreNamed c (names_in list) sigs → block_count (length c.drivers) cycles ≤ 4194304 → IsTraceText c seed cycles sigs text
+      → OnTrace c cycles seed list text statuses.Done

@@ -1,0 +1,82 @@
+//! From a netlist to the dump of a simulated execution.
+ghost use Rattle.std.specs.Prelude.{◌≡◌, ◌<◌, ◌≤◌, ℕ, List, IfOk, IfSome};
+ghost use Rattle.sr_outside.specs.Counts.{IsCounted};
+ghost use Rattle.sr_outside.specs.Told.{IsSteady};
+ghost use Rattle.netlist.specs.Circuit.{IsCircuit};
+ghost use Rattle.dump_reader.specs.Recording.{IsCount};
+ghost use Rattle.restore_program.specs.Answer.{IsFault, IsNetlistFault, OnFault, Replies, SimulateAnswer};
+ghost use Rattle.restore_program.specs.Tracing.{AreNamed, IsTraceText, OnTrace, names_in};
+
+use crate::netlists::read_netlist;
+use crate::reply::Reply;
+use crate::trace::traced_signals;
+use cycle_sim::{simulate_trace, stimulus};
+use dump_reader::print_dump;
+use netlist::Netlist;
+use sr_model::{Bytes, NoMemory, Sig};
+use sr_outside::Inputs;
+use std::alloc::Global;
+
+/// The most blocks of 64 cycles over all signals.
+const MOST_BLOCKS: u64 = 4_194_304;
+
+/// What is written of this netlist over so many cycles from this seed, with a trace of the signals whose names the list has.
+pub(crate) fn simulate_reply<I: Inputs>(
+    alloc: Global,
+    inputs: &mut I,
+    netlist: &str,
+    cycles: u32,
+    seed: u64,
+    list: &str,
+) -> Reply
+    requires { IsCount cycles }
+    ensures answer { IfSome (I.held inputs.old) (λ held. Replies (SimulateAnswer held netlist.now cycles seed list.now) result) }
+    ensures fault_of { OnFault (IsNetlistFault (I.held inputs.old) (I.shaky inputs.old) netlist.now) result }
+    ensures fault { IsFault result → IsCounted (I.faults inputs.old) (I.faults inputs.new) }
+    ensures rose { I.faults inputs.old < I.faults inputs.new → IsFault result }
+    ensures never_falls { I.faults inputs.old ≤ I.faults inputs.new }
+    ensures steady { IsSteady (I.held inputs.old) (I.shaky inputs.old) netlist.now → I.faults inputs.new ≡ I.faults inputs.old }
+{
+    match read_netlist(alloc, inputs, netlist) {
+        Ok(n) => traced_reply(alloc, &n, cycles, seed, list),
+        Err(reply) => reply,
+    }
+}
+
+/// What is written of a netlist that was read.
+fn traced_reply(alloc: Global, n: &Netlist, cycles: u32, seed: u64, list: &str) -> Reply
+    requires { IsCount cycles }
+    ensures answer { Replies (OnTrace n.now cycles seed list.now) result }
+    ensures no_fault { ¬ (IsFault result) }
+{
+    let sigs = match traced_signals(alloc, n, list) {
+        Ok(sigs) => sigs,
+        Err(refusal) => return Reply::Trace { refusal },
+    };
+    let product = u64::from(n.signals()) * u64::from(cycles.div_ceil(64));
+    if product > MOST_BLOCKS {
+        return Reply::ManyCells { product };
+    }
+    match trace_text(alloc, n, cycles, seed, sigs.as_slice()) {
+        Ok(text) => Reply::Text { text },
+        Err(NoMemory) => Reply::NoMemory,
+    }
+}
+
+/// The text of the dump of these signals.
+fn trace_text(
+    alloc: Global,
+    n: &Netlist,
+    cycles: u32,
+    seed: u64,
+    sigs: &[Sig],
+) -> Result<Bytes, NoMemory>
+    requires cycles { IsCount cycles }
+    requires circuit { IsCircuit n.now }
+    requires named { (names : List (List ℕ)) × AreNamed n.now names sigs.now }
+    ensures { IfOk result (λ text. IsTraceText n.now seed cycles sigs.now text.items) }
+{
+    let inputs = stimulus(alloc, n, seed, cycles)?;
+    let dump = simulate_trace(alloc, n, &inputs, sigs)?;
+    print_dump(alloc, n, &dump)
+}

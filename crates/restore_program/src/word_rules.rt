@@ -1,0 +1,68 @@
+//! The commands, their files and their keys.
+
+/// What a key takes.
+#[derive(Clone, Copy)]
+pub(crate) enum Takes {
+    /// A number from least to most.
+    Number { least: u64, most: u64 },
+    /// Names, parted by commas.
+    Names,
+}
+
+/// A key: its name, whether it has to be given, and what it takes.
+#[derive(Clone, Copy)]
+pub(crate) struct Key {
+    pub(crate) name: &'static str,
+    pub(crate) required: bool,
+    pub(crate) takes: Takes,
+}
+
+/// A command: its name, how many files follow it, and the keys of the words behind them.
+#[derive(Clone, Copy)]
+pub(crate) struct Command {
+    pub(crate) name: &'static str,
+    pub(crate) files: usize,
+    pub(crate) keys: &'static [Key],
+}
+
+pub(crate) const RESTORE: Command = Command {
+    name: "restore",
+    files: 2,
+    keys: &[],
+};
+
+pub(crate) const CYCLES: Key = Key {
+    name: "cycles",
+    required: true,
+    takes: Takes::Number {
+        least: 1,
+        most: 8192,
+    },
+};
+
+pub(crate) const SEED: Key = Key {
+    name: "seed",
+    required: true,
+    takes: Takes::Number {
+        least: 0,
+        most: u64::MAX,
+    },
+};
+
+pub(crate) const TRACE: Key = Key {
+    name: "trace",
+    required: true,
+    takes: Takes::Names,
+};
+
+pub(crate) const SIMULATE: Command = Command {
+    name: "simulate",
+    files: 1,
+    keys: &[CYCLES, SEED, TRACE],
+};
+
+pub(crate) const PRINT: Command = Command {
+    name: "print",
+    files: 1,
+    keys: &[],
+};

@@ -1,0 +1,97 @@
+//! Command lines and what they ask for, worked out by hand.
+use super::{Settings, WordRefusal, read_words};
+use std::alloc::{AllocError, Global};
+use std::test::*;
+
+/// The words of a line, which are parted by one space or more.
+fn words_of(alloc: Global, line: &str) -> Result<Vec<String>, AllocError> {
+    let mut words = Vec::new(alloc);
+    for word in line.split_ascii_whitespace() {
+        words.push(String::from_str(alloc, word)?)?;
+    }
+    Ok(words)
+}
+
+#[test]
+fn shapes(rt: HostRuntime) -> Result<(), Fail> {
+    let lines = [
+        "",
+        "simulate",
+        "Simulate net cycles=1 seed=0 trace=a",
+        "restore net",
+        "restore net dump more",
+        "restore net dump cycles=1",
+        "print net all=yes",
+        "simulate net cycles=1 seed=0",
+        "simulate net cycles=1 seed=0 trace=a width=4",
+        "simulate net cycles=1 seed=0 trace=a Seed=1",
+        "simulate net cycles=1 seed=0 trace=a seed=0",
+        "simulate net cycles=1 seed=0 trace=a more",
+        "simulate net cycles=1 seed=0 trace=a =",
+        "simulate net cycles seed=0 trace=a",
+        "simulate cycles=1 seed=0 trace=a",
+        "simulate net cycles=1 seed=0 trace=",
+        "simulate net cycles=1 seed=0 trace=,",
+        "simulate net cycles=1 seed=0 trace=a,,b",
+        "simulate net cycles=1 seed=0 trace=a,b,",
+        "simulate net cycles=0 seed=0 trace=",
+        "simulate net cycles=0 cycles=1 seed=0 trace=a",
+    ];
+    for line in lines {
+        let words = words_of(rt.alloc(), line)?;
+        assert_eq!(rt; read_words(words.as_slice()), Err(WordRefusal::Usage));
+    }
+    Ok(())
+}
+
+#[test]
+fn numbers(rt: HostRuntime) -> Result<(), Fail> {
+    let lines = [
+        ("simulate net cycles=0 seed=0 trace=a", 2),
+        ("simulate net cycles=8193 seed=0 trace=a", 2),
+        ("simulate net cycles=01 seed=0 trace=a", 2),
+        ("simulate net cycles= seed=0 trace=a", 2),
+        ("simulate net trace=a cycles=1 seed=18446744073709551616", 4),
+        ("simulate net seed=+1 trace=a cycles=1", 2),
+        ("simulate net seed=1= cycles=-1 trace=a", 2),
+        ("simulate net trace=a cycles=1x seed=x", 3),
+    ];
+    for (line, place) in lines {
+        let words = words_of(rt.alloc(), line)?;
+        assert_eq!(rt;
+            read_words(words.as_slice()),
+            Err(WordRefusal::Number { place })
+        );
+    }
+    Ok(())
+}
+
+#[test]
+fn commands(rt: HostRuntime) -> Result<(), Fail> {
+    let lines = [
+        ("restore net dump", Settings::Restore),
+        ("restore a=b cycles=1", Settings::Restore),
+        ("print restore", Settings::Print),
+        (
+            "simulate net cycles=1 seed=0 trace=a",
+            Settings::Simulate {
+                cycles: 1,
+                seed: 0,
+                trace: 4,
+            },
+        ),
+        (
+            "simulate cycles=0 trace=a=b,c cycles=8192 seed=18446744073709551615",
+            Settings::Simulate {
+                cycles: 8192,
+                seed: u64::MAX,
+                trace: 2,
+            },
+        ),
+    ];
+    for (line, settings) in lines {
+        let words = words_of(rt.alloc(), line)?;
+        assert_eq!(rt; read_words(words.as_slice()), Ok(settings));
+    }
+    Ok(())
+}
