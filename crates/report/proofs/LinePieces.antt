@@ -1,0 +1,38 @@
+-- The pieces of the lines of refusals and of contradictions.
+use Rattle.std.proofs.Common.{◌≡◌, ℕ, List, [], ◌++◌, get_or, ap, ◌∙◌, append_assoc}
+use Rattle.std.proofs.lemmas.List.{append-nil}
+use Rattle.std.specs.Prelude.{codes}
+use Rattle.std.specs.Fmt.{decimal}
+use Rattle.sr_model.specs.declared.cells.Cell.{Cell}
+use Rattle.netlist.specs.Circuit.{Circuit}
+use Rattle.report.specs.Clash.{clash_line}
+use Rattle.report.specs.declared.refusal.Part.{Part}
+use Rattle.report.specs.declared.refusal.Part.TheVariants as parts
+use Rattle.report.specs.InputRefusals.{name_of, refused_line}
+
+-- the pieces of the line of a refusal
+pub refused_joined : (part : Part) (line : ℕ) (name digits why : List ℕ) → name ≡ name_of part → digits ≡ decimal line
+    → codes "srestore: " ++ (name ++ (codes " line " ++ (digits ++ (why ++ [])))) ≡ refused_line part line why
+refused_joined part line name digits why same_name same_digits =
+    ap (λ n. codes "srestore: " ++ (n ++ (codes " line " ++ (digits ++ (why ++ []))))) same_name
+    ∙ ap (λ d. codes "srestore: " ++ (name_of part ++ (codes " line " ++ (d ++ (why ++ []))))) same_digits ∙ ap (λ w. codes "srestore: " ++ (name_of part ++ (codes " line " ++ (decimal line ++ w)))) (append-nil why)
+    ∙ simp append_assoc
+
+pub cells_joined : (line product : ℕ) (digits more : List ℕ) → digits ≡ decimal line → more ≡ decimal product
+    → codes "srestore: dump line " ++ (digits ++ (codes ": 17 too many cells " ++ (more ++ (codes "\n" ++ [])))) ≡ refused_line parts.Dump line (codes ": 17 too many cells " ++ decimal product ++ codes "\n")
+cells_joined line product digits more same_line same_product =
+    ap (λ d. codes "srestore: dump line " ++ (d ++ (codes ": 17 too many cells " ++ (more ++ (codes "\n" ++ []))))) same_line
+    ∙ ap (λ m. codes "srestore: dump line " ++ (decimal line ++ (codes ": 17 too many cells " ++ (m ++ (codes "\n" ++ []))))) same_product
+    ∙ simp append_assoc
+
+pub loop_joined : (count : ℕ) (name digits : List ℕ) → digits ≡ decimal count
+    → codes "srestore: netlist: 9 loop " ++ (name ++ (codes " " ++ (digits ++ (codes "\n" ++ [])))) ≡ codes "srestore: netlist: 9 loop " ++ name ++ codes " " ++ decimal count ++ codes "\n"
+loop_joined count name digits same = ap (λ d. codes "srestore: netlist: 9 loop " ++ (name ++ (codes " " ++ (d ++ (codes "\n" ++ []))))) same ∙ simp append_assoc
+
+-- the pieces of the line of a contradiction
+pub clash_joined : (c : Circuit) (cell : Cell) (name digits : List ℕ) → name ≡ get_or c.names cell.sig.0 [] → digits ≡ decimal cell.cycle
+    → codes "contradiction " ++ (name ++ (codes " " ++ (digits ++ (codes "\n" ++ [])))) ≡ clash_line c cell
+clash_joined c cell name digits same_name same_digits =
+    ap (λ n. codes "contradiction " ++ (n ++ (codes " " ++ (digits ++ (codes "\n" ++ []))))) same_name
+    ∙ ap (λ d. codes "contradiction " ++ (get_or c.names cell.sig.0 [] ++ (codes " " ++ (d ++ (codes "\n" ++ []))))) same_digits
+    ∙ simp append_assoc

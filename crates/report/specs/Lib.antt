@@ -1,0 +1,5 @@
+pub mod Clash
+pub mod InputRefusals
+pub mod Joined
+pub mod Refusals
+pub mod Writes

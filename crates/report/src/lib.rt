@@ -1,0 +1,11 @@
+//! Text out: tables, contradictions and refusals.
+#![tactic(auto)]
+
+mod clash;
+mod pieces;
+mod refusal;
+mod refusal_lines;
+mod word_lines;
+
+pub use clash::write_clash;
+pub use refusal::{Part, Refusal, WordRefusal, write_refusal};

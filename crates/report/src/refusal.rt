@@ -1,0 +1,81 @@
+//! Why nothing is written but one line, and that line.
+ghost use Rattle.std.specs.Prelude.{map};
+ghost use Rattle.std.specs.String.{string_bytes};
+ghost use Rattle.report.specs.Refusals.{AreThere, refusal_line};
+ghost use Rattle.report.specs.Writes.{Writes};
+
+use crate::refusal_lines::{
+    write_bench_refusal, write_dump_refusal, write_fault, write_net_refusal, write_text,
+    write_too_long,
+};
+use crate::word_lines::{write_many_cells, write_name, write_word_refusal};
+use bench_reader::BenchRefusal;
+use dump_reader::DumpRefusal;
+use netlist::NetRefusal;
+use sr_outside::{Sink, WriteFault};
+use thiserror::Error;
+
+/// Which input is spoken of.
+#[derive(Clone, Copy, Debug, PartialEq, Eq)]
+pub enum Part {
+    Netlist,
+    Dump,
+}
+
+/// Why the words are refused.
+#[derive(Clone, Copy, Debug, PartialEq, Eq, Error)]
+pub enum WordRefusal {
+    /// They have none of the commands' shapes.
+    #[error("usage")]
+    Usage,
+    /// A number is none that its key takes. The word is the first such one, by its place among the words.
+    #[error("word {place}: number")]
+    Number { place: u32 },
+}
+
+/// Why nothing but one line is written. A place is one among the words, and an item one among the names of the list that the word at the place
+/// has; both count from 0.
+#[derive(Debug, Drop)]
+pub enum Refusal {
+    /// The netlist's text is refused.
+    Bench { refusal: BenchRefusal },
+    /// The netlist's statements are refused.
+    Net { refusal: NetRefusal },
+    /// The dump's text is refused.
+    Dumped { refusal: DumpRefusal },
+    /// The words are refused.
+    Words { refusal: WordRefusal },
+    /// An input has too many bytes.
+    TooLong { part: Part },
+    /// An input was not read.
+    Fault { part: Part },
+    /// The words ask for too many cells.
+    CellsByWords { product: u64 },
+    /// A name of the list is that of no signal.
+    TraceUnknown { place: u32, item: u32 },
+    /// A name of the list stands before in the list.
+    TraceTwice { place: u32, item: u32 },
+    /// Memory was refused.
+    NoMemory,
+}
+
+/// Writes the line of the refusal. It takes no memory.
+pub fn write_refusal<K: Sink>(r: &Refusal, words: &[String], out: &mut K) -> Result<(), WriteFault>
+    requires { AreThere (map string_bytes words.now) r.now }
+    ensures { Writes (K.written out.old) (K.written out.new) (K.room out.new) (K.faults out.old) (K.faults out.new) result (refusal_line (map string_bytes words.now) r.now) }
+{
+    let unknown: &'static [u8] = b"srestore: words: 26 unknown trace ";
+    let twice: &'static [u8] = b"srestore: words: 27 trace twice ";
+    match r {
+        Refusal::Bench { refusal } => write_bench_refusal(out, refusal),
+        Refusal::Net { refusal } => write_net_refusal(out, refusal),
+        Refusal::Dumped { refusal } => write_dump_refusal(out, refusal),
+        Refusal::Words { refusal } => write_word_refusal(out, words, *refusal),
+        Refusal::TooLong { part } => write_too_long(out, *part),
+        Refusal::Fault { part } => write_fault(out, *part),
+        Refusal::CellsByWords { product } => write_many_cells(out, *product),
+        Refusal::TraceUnknown { place, item } => write_name(out, unknown, words, *place, *item),
+        Refusal::TraceTwice { place, item } => write_name(out, twice, words, *place, *item),
+        Refusal::NoMemory => write_text(out, b"srestore: no memory\n"),
+    }
+}
