@@ -1,12 +1,11 @@
--- Writing one piece after another.
-use Rattle.std.proofs.Common.{◌≡◌, ℕ, ◌+◌, ◌<◌, List, [], ◌∷◌, ◌++◌, length, take, drop, get_or, suc, Option, Some, None, arith, sym, refl, ap, ◌∙◌, append_assoc, length-append}
+-- Writing one part of a text after another.
+use Rattle.std.proofs.Common.{◌≡◌, ℕ, ◌+◌, ◌<◌, List, [], ◌∷◌, ◌++◌, length, take, drop, get_or, suc, Option, Some, None, arith, sym, refl, ap, subst, ◌∙◌, append_assoc, length-append}
+use Rattle.std.specs.List.{flat_map}
 use Rattle.std.proofs.Math.Seq.{drop-cons}
 use Rattle.std.proofs.lemmas.List.{take-append-drop, take-append-le, take_more, append-nil}
 use Rattle.std.proofs.lemmas.List.Concat.{flat_map-append}
 use Rattle.std.specs.Io.KnownBytes.{append_known}
-use denote.Bor.{Bor}
 use Rattle.sr_outside.specs.Told.{AppendsPart}
-use Rattle.report.specs.Joined.{joined}
 
 pub append_known-append : (known : Option (List ℕ)) (a b : List ℕ) → append_known (append_known known a) b ≡ append_known known (a ++ b)
 append_known-append None a b = refl
@@ -17,33 +16,45 @@ take-behind : (a b : List ℕ) (n : ℕ) → take (length a + n) (a ++ b) ≡ a 
 take-behind [] b n = ap (λ k. take k b) (omega arith)
 take-behind (x ∷ a) b n = let at : length (x ∷ a) + n ≡ suc (length a + n) = omega arith in ap (λ k. take k (x ∷ a ++ b)) at ∙ ap (λ xs. x ∷ xs) (take-behind a b n)
 
--- the pieces before one, that piece, and those after it
-joined_at : (pieces : List (Bor (List ℕ))) (i : ℕ) (d : Bor (List ℕ)) → i < length pieces → joined pieces ≡ joined (take i pieces) ++ ((get_or pieces i d).now ++ joined (drop (suc i) pieces))
-joined_at pieces i d h =
-    let whole : pieces ≡ take i pieces ++ get_or pieces i d ∷ drop (suc i) pieces = sym (take-append-drop i pieces) ∙ ap (λ xs. take i pieces ++ xs) (drop-cons pieces i d h) in
-    ap joined whole ∙ flat_map-append (λ piece. piece.now) (take i pieces) (get_or pieces i d ∷ drop (suc i) pieces)
-
--- a part of one piece, behind all pieces before it, is a part of them all
-pub part_of_pieces : (old mid new : Option (List ℕ)) (pieces : List (Bor (List ℕ))) (i : ℕ) (d : Bor (List ℕ)) → i < length pieces → mid ≡ append_known old (joined (take i pieces))
-    → AppendsPart mid new (get_or pieces i d).now → AppendsPart old new (joined pieces)
-part_of_pieces old mid new pieces i d h before part =
-    let front : List ℕ = joined (take i pieces) in
-    let piece : List ℕ = (get_or pieces i d).now in
-    let rest : List ℕ = joined (drop (suc i) pieces) in
-    let whole : joined pieces ≡ front ++ (piece ++ rest) = joined_at pieces i d h in
-    let proper : part.count < length piece = part.proper in
+-- a part of a text is a part of that text with more behind it
+pub part_before : (old new : Option (List ℕ)) (a b : List ℕ) → AppendsPart old new a → AppendsPart old new (a ++ b)
+part_before old new a b part =
+    let proper : part.count < length a = part.proper in
     record {
-      count = length front + part.count;
-      proper = omega (arith, ap length whole, length-append front (piece ++ rest), length-append piece rest, proper);
-      appended = part.appended ∙ ap (λ known. append_known known (take part.count piece)) before ∙ append_known-append old front (take part.count piece)
-          ∙ ap (λ xs. append_known old (front ++ xs)) (sym (take-append-le part.count piece rest (omega (arith, proper))))
-          ∙ ap (append_known old) (sym (take-behind front (piece ++ rest) part.count)) ∙ ap (λ xs. append_known old (take (length front + part.count) xs)) (sym whole);
+      count = part.count;
+      proper = omega (arith, proper, length-append a b);
+      appended = part.appended ∙ ap (append_known old) (sym (take-append-le part.count a b (omega (arith, proper))));
     }
 
--- one more piece was written
-pub pieces_more : (old mid new : Option (List ℕ)) (pieces : List (Bor (List ℕ))) (i : ℕ) (d : Bor (List ℕ)) → i < length pieces → mid ≡ append_known old (joined (take i pieces))
-    → new ≡ append_known mid (get_or pieces i d).now → new ≡ append_known old (joined (take (i + 1) pieces))
-pieces_more old mid new pieces i d h before after =
-    let more : joined (take (i + 1) pieces) ≡ joined (take i pieces) ++ (get_or pieces i d).now =
-    ap joined (take_more pieces i d h) ∙ flat_map-append (λ piece. piece.now) (take i pieces) (get_or pieces i d ∷ []) ∙ ap (λ xs. joined (take i pieces) ++ xs) (append-nil (get_or pieces i d).now) in
-    after ∙ ap (λ known. append_known known (get_or pieces i d).now) before ∙ append_known-append old (joined (take i pieces)) (get_or pieces i d).now ∙ ap (append_known old) (sym more)
+-- a part of a text, behind another, is a part of both
+pub part_behind : (old mid new : Option (List ℕ)) (a b : List ℕ) → mid ≡ append_known old a → AppendsPart mid new b → AppendsPart old new (a ++ b)
+part_behind old mid new a b before part =
+    let proper : part.count < length b = part.proper in
+    record {
+      count = length a + part.count;
+      proper = omega (arith, proper, length-append a b);
+      appended = part.appended ∙ ap (λ known. append_known known (take part.count b)) before ∙ append_known-append old a (take part.count b)
+          ∙ ap (append_known old) (sym (take-behind a b part.count));
+    }
+
+-- the texts before one, that text, and those after it
+texts_at : {A : Type 0} (f : A → List ℕ) (xs : List A) (i : ℕ) (d : A) → i < length xs → flat_map f xs ≡ flat_map f (take i xs) ++ (f (get_or xs i d) ++ flat_map f (drop (suc i) xs))
+texts_at f xs i d h =
+    let whole : xs ≡ take i xs ++ get_or xs i d ∷ drop (suc i) xs = sym (take-append-drop i xs) ∙ ap (λ ys. take i xs ++ ys) (drop-cons xs i d h) in
+    ap (flat_map f) whole ∙ flat_map-append f (take i xs) (get_or xs i d ∷ drop (suc i) xs)
+
+-- a part of one text, behind all texts before it, is a part of them all
+pub part_of_texts : {A : Type 0} (f : A → List ℕ) (old mid new : Option (List ℕ)) (xs : List A) (i : ℕ) (d : A) → i < length xs → mid ≡ append_known old (flat_map f (take i xs))
+    → AppendsPart mid new (f (get_or xs i d)) → AppendsPart old new (flat_map f xs)
+part_of_texts f old mid new xs i d h before part =
+    subst (AppendsPart old new) (sym (texts_at f xs i d h))
+    (part_behind old mid new (flat_map f (take i xs)) (f (get_or xs i d) ++ flat_map f (drop (suc i) xs)) before
+    (part_before mid new (f (get_or xs i d)) (flat_map f (drop (suc i) xs)) part))
+
+-- one more text was written
+pub texts_more : {A : Type 0} (f : A → List ℕ) (old mid new : Option (List ℕ)) (xs : List A) (i : ℕ) (d : A) → i < length xs → mid ≡ append_known old (flat_map f (take i xs))
+    → new ≡ append_known mid (f (get_or xs i d)) → new ≡ append_known old (flat_map f (take (i + 1) xs))
+texts_more f old mid new xs i d h before after =
+    let more : flat_map f (take (i + 1) xs) ≡ flat_map f (take i xs) ++ f (get_or xs i d) =
+    ap (flat_map f) (take_more xs i d h) ∙ flat_map-append f (take i xs) (get_or xs i d ∷ []) ∙ ap (λ ys. flat_map f (take i xs) ++ ys) (append-nil (f (get_or xs i d))) in
+    after ∙ ap (λ known. append_known known (f (get_or xs i d))) before ∙ append_known-append old (flat_map f (take i xs)) (f (get_or xs i d)) ∙ ap (append_known old) (sym more)

@@ -2,4 +2,6 @@ pub mod Clash
 pub mod InputRefusals
 pub mod Joined
 pub mod Refusals
+pub mod Rows
+pub mod Table
 pub mod Writes

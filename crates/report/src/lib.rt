@@ -5,7 +5,11 @@ mod clash;
 mod pieces;
 mod refusal;
 mod refusal_lines;
+mod row_buf;
+mod table;
 mod word_lines;
 
 pub use clash::write_clash;
 pub use refusal::{Part, Refusal, WordRefusal, write_refusal};
+pub use row_buf::RowBuf;
+pub use table::write_table;

@@ -1,0 +1,5 @@
+use Rattle.known_planes.proofs.BitCounts.{tested}
+use Rattle.report.proofs.table.is_set.Goals as goal
+
+pub returns : goal.returns
+returns c = tested c.args.word c.args.i
