@@ -3,6 +3,7 @@ ghost use Rattle.std.specs.Prelude.{ℕ, ◌≡◌, ◌<◌, ◌≤◌, ◌↔�
 ghost use Rattle.sr_model.specs.declared.cells.Cell.{Cell as AnyCell};
 ghost use Rattle.sr_model.specs.Closure.{HasBoth};
 ghost use Rattle.unroll.specs.Bits.{is_set};
+ghost use Rattle.unroll.specs.Problem.{signals_in};
 ghost use Rattle.known_planes.specs.Planes.{IsOf, lits};
 ghost use Rattle.known_planes.specs.Clash.{IsLeastClash, has_both_at};
 
@@ -15,6 +16,7 @@ impl Planes {
     pub fn clash(&self, p: &Problem) -> Option<Cell>
         requires { IsOf p.now self.now }
         ensures some { IfSome result (IsLeastClash (lits p.now self.now)) }
+        ensures within { IfSome result (λ c. c.sig.0 < signals_in p.now) }
         ensures none { IsNone result → (c : AnyCell) → HasBoth (lits p.now self.now) c → ⊥ }
     {
         for chunk in 0..p.chunks() {

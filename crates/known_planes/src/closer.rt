@@ -1,6 +1,7 @@
 //! The boundary through which a closure is taken.
 ghost use Rattle.std.specs.Prelude.{◌⊎◌, IfOk};
-ghost use Rattle.sr_model.specs.Closure.{Closure, SameLits};
+ghost use Rattle.sr_model.specs.declared.cells.Cell.{Cell as AnyCell};
+ghost use Rattle.sr_model.specs.Closure.{Closure, HasBoth, IsWithin, SameLits};
 ghost use Rattle.unroll.specs.Problem.{unrolled};
 ghost use Rattle.known_planes.specs.Planes.{lits, IsOf};
 
@@ -38,4 +39,17 @@ pub trait Closer {
         requires closed { SameLits (lits p.now closed.now) (Closure (unrolled p.now) (lits p.now closed.now)) }
         ensures of { IfOk result (IsOf p.now) }
         ensures closure { IfOk result (λ planes. SameLits (lits p.now planes) (Closure (unrolled p.now) (λ l. lits p.now closed.now l ⊎ lits p.now added.now l))) };
+
+    /// The planes with the closure of the base, or so much of it that a cell has both literals: it need not go on behind the first such cell that it meets.
+    fn close_until_clash<R: Threads + Sync>(
+        &mut self,
+        rt: &R,
+        alloc: Global,
+        p: &Problem,
+        base: &Planes,
+    ) -> Result<Planes, NoMemory>
+        requires { IsOf p.now base.now }
+        ensures of { IfOk result (IsOf p.now) }
+        ensures within { IfOk result (λ planes. IsWithin (lits p.now planes) (Closure (unrolled p.now) (lits p.now base.now))) }
+        ensures closure { IfOk result (λ planes. ((c : AnyCell) → HasBoth (lits p.now planes) c → ⊥) → SameLits (lits p.now planes) (Closure (unrolled p.now) (lits p.now base.now))) };
 }

@@ -14,7 +14,8 @@ impl Planes {
     /// The number of flip-flop cells of which at least one literal is there. A cell with both counts once.
     pub fn count_known_flip_flops(&self, p: &Problem) -> u64
         requires { IsOf p.now self.now }
-        ensures { result ≡ known_flip_flop_count p.now self.now }
+        ensures count { result ≡ known_flip_flop_count p.now self.now }
+        ensures few { result ≤ 536870912 }
     {
         let mut count = 0;
         for chunk in 0..self.chunks() {

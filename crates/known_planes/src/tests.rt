@@ -75,6 +75,16 @@ impl Closer for Refusing {
     ) -> Result<Planes, NoMemory> {
         Err(NoMemory)
     }
+
+    fn close_until_clash<R: Threads + Sync>(
+        &mut self,
+        _rt: &R,
+        _alloc: Global,
+        _p: &Problem,
+        _base: &Planes,
+    ) -> Result<Planes, NoMemory> {
+        Err(NoMemory)
+    }
 }
 
 /// The literal 1 of signal 0 in cycle 63, and its literal 0 in cycle 64.

@@ -6,11 +6,10 @@ pub mod SettledOnce
 pub mod FreshBits
 pub mod TurnedTasks
 pub mod NoClash
-pub mod JoinedWords
-pub mod ListedTasks
-pub mod LevelJoins
-pub mod TaskWords
-pub mod ListedForced
+pub mod NewLits
+pub mod Noting
+pub mod Taking
+pub mod Forcing
 pub mod LitCounts
 pub mod NextLevels
 pub mod Turning

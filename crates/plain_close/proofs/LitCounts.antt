@@ -16,7 +16,7 @@ use Rattle.unroll.proofs.WordBits.{is_set_zero}
 use Rattle.unroll.proofs.ConstantTasks.{chunk-listed}
 use Rattle.known_planes.specs.Planes.{PlaneSet, IsOf, no_bits, has, words_at}
 use Rattle.plain_close.specs.Levels.{cell_numbered, cells_with, lit_count}
-use Rattle.plain_close.proofs.JoinedWords.{has-parts}
+use Rattle.plain_close.proofs.Turning.{has-bit_of}
 
 one-le : (a b : Bool) → (a ≡ true → b ≡ true) → cond a 1 0 ≤ cond b 1 0
 one-le true b h = subst (λ x. 1 ≤ cond x 1 0) (sym (h refl)) (omega arith)
@@ -64,7 +64,7 @@ lit-signal u planes of l h =
       | inr past ↦
           let further : signals_in u * chunks_in u ≤ l.cell.sig.0 * chunks_in u = mul-le-mul_right (chunks_in u) past in
           let none : words_at planes (block_of u l.cell) ≡ no_bits = get_or-eq_default planes.words no_bits (subst (λ n. n ≤ (block_of u l.cell).0) (sym of.blocks) (omega (arith, further))) in
-          absurd (true≢false (sym (has-parts u planes l h).1 ∙ ap (λ w. is_set (word_for l.bit w) (bit_of l.cell)) none ∙ unset l.bit))
+          absurd (true≢false (sym (has-bit_of u planes l h).1 ∙ ap (λ w. is_set (word_for l.bit w) (bit_of l.cell)) none ∙ unset l.bit))
     ]
   where
     unset : (bit : Bool) → is_set (word_for bit no_bits) (bit_of l.cell) ≡ false
@@ -91,7 +91,7 @@ module _ (u : Unrolling) (old new : PlaneSet) (of : IsOf u new) (kept : (l : Lit
     within : l.cell.cycle * signals_in u + l.cell.sig.0 < u.cycles * signals_in u
     within =
         subst (λ n. l.cell.cycle * signals_in u + l.cell.sig.0 < n) (swap (signals_in u) u.cycles)
-        (mul-add-lt l.cell.cycle (signals_in u) l.cell.sig.0 u.cycles (has-parts u new l some).0 sig)
+        (mul-add-lt l.cell.cycle (signals_in u) l.cell.sig.0 u.cycles (has-bit_of u new l some).0 sig)
 
     itself : lit (cell_numbered u (l.cell.cycle * signals_in u + l.cell.sig.0)) l.bit ≡ l
     itself =

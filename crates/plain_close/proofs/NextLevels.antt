@@ -1,81 +1,72 @@
 -- From a level to the next one, and to the clash.
-use Rattle.std.proofs.Common.{ℕ, suc, ◌≡◌, ◌+◌, ◌<◌, ◌≤◌, Bool, true, false, length, replicate, get_or, arith, inl, inr, sym, ap, subst, ◌∙◌}
+use Rattle.std.proofs.Common.{ℕ, suc, ◌≡◌, ◌+◌, ◌<◌, ◌≤◌, ◌⊎◌, [], true, false, List, map, arith, inl, inr, sym, ap, subst, ◌∙◌}
 use Rattle.std.specs.List.{Contains}
-use Rattle.std.proofs.lemmas.Bool.{cases_lt, cases_Bool, true≢false}
-use Rattle.std.proofs.lemmas.List.{get_or-replicate}
+use Rattle.std.proofs.lemmas.Bool.{cases_lt}
 use Rattle.sr_model.specs.declared.cells.Cell.{Cell}
 use Rattle.sr_model.specs.declared.cells.Lit.{Lit}
-use Rattle.sr_model.specs.Closure.{Closure, ForcesSomewhere, IsWithin, SameLits, IsClosed, HasBoth, IsClash, level, lit}
+use Rattle.sr_model.specs.Closure.{Closure, ForcesSomewhere, IsClash, IsWithin, SameLits, IsClosed, HasBoth, level, lit}
+use Rattle.sr_model.proofs.Members.{not_in_nil}
 use Rattle.sr_model.proofs.ClosureLaws.{ForcesSomewhere-more, least, level-later}
 use Rattle.unroll.specs.declared.problem.Block.{Block}
-use Rattle.unroll.specs.declared.problem.Task.{Task}
-use Rattle.unroll.specs.Problem.{Unrolling, IsProblem, unrolled, blocks_in}
-use Rattle.unroll.specs.Tasks.{IsTask, IsPlaceOf, task_of, adjacent_tasks}
-use Rattle.unroll.proofs.TaskCells.{each_in_one_task}
-use Rattle.known_planes.specs.Planes.{PlaneSet, IsOf, has, lits, words_at}
+use Rattle.unroll.specs.Bits.{is_set, word_for}
+use Rattle.unroll.specs.Problem.{Unrolling, unrolled, block_of, bit_of}
 use Rattle.known_planes.specs.Clash.{IsLeastClash}
+use Rattle.known_planes.specs.Planes.{PlaneSet, IsOf, has, lits, words_at}
+use Rattle.plain_close.specs.declared.task_queues.InChunk.{InChunk}
 use Rattle.plain_close.specs.declared.levels.Level.{Level}
-use Rattle.plain_close.specs.Turns.{IsDone}
-use Rattle.plain_close.specs.Levels.{IsLevel, IsNext, Joins, is_listed, lit_count}
-use Rattle.plain_close.proofs.ListedForced.{IsForced, somewhere}
+use Rattle.plain_close.specs.Queues.{Waiting}
+use Rattle.plain_close.specs.Turns.{IsSettled, Wakes, HaveNoClash, block_in, has_bit}
+use Rattle.plain_close.specs.Levels.{IsLevel, IsNext, IsNoted, lit_count}
 use Rattle.plain_close.proofs.LitCounts.{count-more, few-lits}
-use Rattle.plain_close.proofs.SameCells.{forced-on_cells, same-on_cells}
+use Rattle.plain_close.proofs.SameCells.{forced-on_cells}
+use Rattle.plain_close.proofs.Turning.{has-kept, has-bit_of, bit-has}
 
--- with each task listed none is left out
-pub first-level : (u : Unrolling) → IsProblem u → (at : Level) → IsOf u at.planes → (n : ℕ) → n ≡ blocks_in u → at.listed.items ≡ replicate n true → length at.listed.items ≡ n → IsLevel u at
-first-level u problem at of n count all size = record {
-  problem = problem;
-  of = of;
-  size = size ∙ count;
-  done = λ t task not_listed.
-      let within : t.0 < n = subst (λ k. t.0 < k) (sym count) task.0 in
-      absurd (true≢false (sym (ap (λ flags. get_or flags t.0 false) all ∙ get_or-replicate n t.0 true false within) ∙ not_listed));
-}
+-- The next planes have all that these force, and the blocks in which they differ were taken over.
+module _ (u : Unrolling) (planes next : PlaneSet) (changed : List InChunk) (noted : IsNoted u planes next changed)
+    (adds : SameLits (lits u next) (λ l. lits u planes l ⊎ ForcesSomewhere (unrolled u) (lits u planes) l)) where
+  -- where no block differs there is nothing to force
+  pub closed-level : changed ≡ [] → IsClosed (unrolled u) (lits u planes)
+  closed-level none l f = has-kept u next planes (λ b bit i h. ap (λ w. is_set (word_for bit w) i) (sym (unchanged b)) ∙ h) l (adds.1 l (inr f)) where
+    unchanged : (b : Block) → words_at next b ≡ words_at planes b
+    unchanged b = elim (noted.noted b) [ inl same ↦ same | inr there ↦ absurd (not_in_nil b (subst (λ xs. Contains (map (block_in u) xs) b) none there)) ]
 
-module _ (u : Unrolling) (this start next : Level) (added : Bool) (is : IsLevel u this) (same : start.planes ≡ this.planes) (joins : Joins u (somewhere u this) start next added)
-    (forced : (t : Task) → IsTask u t → is_listed this.listed.items t ≡ true → IsForced u this next t) where
-  kept : (l : Lit) → has u this.planes l ≡ true → has u next.planes l ≡ true
-  kept l h = joins.kept l (subst (λ (p : PlaneSet). has u p l ≡ true) (sym same) h)
+  module _ (after : PlaneSet) (same : (b : Block) → words_at next b ≡ words_at after b) where
+    to-after : (l : Lit) → has u next l ≡ true → has u after l ≡ true
+    to-after = has-kept u next after (λ b bit i h. ap (λ w. is_set (word_for bit w) i) (sym (same b)) ∙ h)
 
-  -- each task is listed or done
-  all-forced : (t : Task) → IsTask u t → IsForced u this next t
-  all-forced t task l f =
-      elim (cases_Bool (is_listed this.listed.items t)) [
-        | inl listed ↦ forced t task listed l f
-        | inr not_listed ↦ kept l (is.done t task not_listed l f)
-      ]
+    from-after : (l : Lit) → has u after l ≡ true → has u next l ≡ true
+    from-after = has-kept u after next (λ b bit i h. ap (λ w. is_set (word_for bit w) i) (same b) ∙ h)
 
-  still-done : (t : Task) → IsTask u t → is_listed next.listed.items t ≡ false → IsDone u t (has u next.planes)
-  still-done t task not_listed l f =
-      all-forced t task l (forced-on_cells u t (has u next.planes) (has u this.planes) (λ c bit of h. sym (same-on_cells u t this.planes next.planes unchanged c bit of) ∙ h) l f)
-    where
-      unchanged : (b : Block) → Contains (adjacent_tasks u b) t → words_at next.planes b ≡ words_at this.planes b
-      unchanged b h =
-          elim (joins.listed b) [
-            | inl e ↦ e ∙ ap (λ (p : PlaneSet). words_at p b) same
-            | inr tasks ↦ absurd (true≢false (sym (tasks t h) ∙ not_listed))
-          ]
+    pub next-adds : SameLits (lits u after) (λ l. lits u planes l ⊎ ForcesSomewhere (unrolled u) (lits u planes) l)
+    next-adds = (λ l h. adds.0 l (from-after l h), λ l h. to-after l (adds.1 l h))
 
-  everywhere : IsWithin (ForcesSomewhere (unrolled u) (lits u this.planes)) (lits u next.planes)
-  everywhere l (p, f) =
-      let one : IsTask u (task_of u p) × IsPlaceOf u (task_of u p) p × ((t : Task) → IsPlaceOf u t p → t ≡ task_of u p) = each_in_one_task u p f.instance f.stands in
-      all-forced (task_of u p) one.0 l (record { place = p; belongs = one.1; forces = f })
+    pub next-settled : (empty q : Waiting) → Wakes u planes after empty q → IsSettled u after q
+    next-settled empty q wakes t is =
+        elim (wakes.woken t) [
+          | inl waits ↦ inl waits
+          | inr unchanged ↦ inr (λ l f.
+              let g = forced-on_cells u t (has u after) (has u planes) (λ c bit of h. sym (unchanged c bit of) ∙ h) l f in
+              to-after l (adds.1 l (inr (g.place, g.forces))))
+        ]
 
-  pub next-level : added ≡ true → IsNext u this next
-  next-level some = record {
-    is_level = record { problem = is.problem; of = joins.of; size = joins.size; done = still-done };
-    adds = (
-      λ l h. elim (joins.allowed l h) [ inl before ↦ inl (subst (λ (p : PlaneSet). has u p l ≡ true) same before) | inr new_one ↦ inr new_one ],
-      λ l h. elim h [ inl before ↦ kept l before | inr new_one ↦ everywhere l new_one ],
-    );
-    more = (
-        let found : (l : Lit) × (has u start.planes l ≡ false) × (has u next.planes l ≡ true) = joins.more some in
-        count-more u this.planes next.planes joins.of kept found.0 (subst (λ (p : PlaneSet). has u p found.0 ≡ false) same found.1) found.2
-        );
-  }
+    pub next-clash : ((c : Cell) → HasBoth (lits u planes) c → ⊥) → HaveNoClash next (map (block_in u) changed) → (c : Cell) → HasBoth (lits u after) c → ⊥
+    next-clash none no_clash c both =
+        let zero : (c.cycle < u.cycles) × (has_bit next (block_of u c) false (bit_of c) ≡ true) = has-bit_of u next (lit c false) (from-after (lit c false) both.0) in
+        let one : (c.cycle < u.cycles) × (has_bit next (block_of u c) true (bit_of c) ≡ true) = has-bit_of u next (lit c true) (from-after (lit c true) both.1) in
+        elim (noted.noted (block_of u c)) [
+          | inl unchanged ↦ none c (
+            bit-has u planes (lit c false) zero.0 (ap (λ w. is_set (word_for false w) (bit_of c)) (sym unchanged) ∙ zero.1),
+            bit-has u planes (lit c true) one.0 (ap (λ w. is_set (word_for true w) (bit_of c)) (sym unchanged) ∙ one.1),
+          )
+          | inr there ↦ no_clash (block_of u c) (bit_of c) there zero.1 one.1
+        ]
 
-  pub closed-level : added ≡ false → IsClosed (unrolled u) (lits u this.planes)
-  closed-level none l f = subst (λ (p : PlaneSet). has u p l ≡ true) (joins.same none ∙ same) (everywhere l f)
+    pub next-more : IsOf u after → (changed ≡ [] → ⊥) → lit_count u planes < lit_count u after
+    next-more of some =
+        elim noted.more [
+          | inl none ↦ absurd (some none)
+          | inr found ↦ count-more u planes after of (λ l h. to-after l (has-kept u planes next noted.kept l h)) found.0 found.1 (to-after found.0 found.2)
+        ]
 
 -- The planes have the literals of the level with this number, and no cell has both at a level before. So far there are at least so many literals.
 pub record LevelAt (u : Unrolling) (base : PlaneSet) (number : ℕ) (at : Level) : Type 0 where
@@ -84,19 +75,10 @@ pub record LevelAt (u : Unrolling) (base : PlaneSet) (number : ℕ) (at : Level)
   pub none_before : (j : ℕ) (c : Cell) → j < number → HasBoth (level (unrolled u) (lits u base) j) c → ⊥
   pub count : number ≤ lit_count u at.planes
 
-pub base-level : (u : Unrolling) (base : PlaneSet) (at : Level) → IsLevel u at → at.planes ≡ base → LevelAt u base 0 at
-base-level u base at is same = record {
-  is_level = is;
-  literals = (λ l h. subst (λ (p : PlaneSet). has u p l ≡ true) same h, λ l h. subst (λ (p : PlaneSet). has u p l ≡ true) (sym same) h);
-  none_before = λ j c below. absurd (omega (arith, below));
-  count = omega arith;
-}
-
 module _ (u : Unrolling) (base : PlaneSet) (number : ℕ) (at : Level) (is : LevelAt u base number at) where
   both-here : (c : Cell) → HasBoth (level (unrolled u) (lits u base) number) c → HasBoth (lits u at.planes) c
   both-here c both = (is.literals.1 (lit c false) both.0, is.literals.1 (lit c true) both.1)
 
-  -- the least cell with both is the clash
   pub clash-here : (c : Cell) → IsLeastClash (lits u at.planes) c → IsClash (unrolled u) (lits u base) c number
   clash-here c clash = record {
     both = (is.literals.0 (lit c false) clash.both.0, is.literals.0 (lit c true) clash.both.1);

@@ -23,7 +23,7 @@ use Rattle.gate_rules.proofs.NewLiterals.{forced-in_time}
 use Rattle.known_planes.specs.Planes.{PlaneSet, has, lits, words_at, no_bits, IsOf}
 use Rattle.plain_close.specs.declared.task_queues.InChunk.{InChunk}
 use Rattle.plain_close.specs.Queues.{Waiting, Waits, IsFirst}
-use Rattle.plain_close.specs.Turns.{IsTaskAt, AreTasksOf, TaskWaits, IsDone, IsSettled, Wakes, JoinsFirst, Turns, Between, Sees, block_in, has_bit, missing_of}
+use Rattle.plain_close.specs.Turns.{IsTaskAt, AreTasksOf, TaskWaits, IsDone, IsSettled, Wakes, JoinsFirst, AddsForced, AreForced, Turns, Between, block_in, has_bit, missing_of}
 use Rattle.plain_close.proofs.SameCells.{forced-on_cells}
 
 -- what the words beside the blocks are, where each is that of its block
@@ -79,26 +79,26 @@ has-kept u old new bits l h =
     let parts : (l.cell.cycle < u.cycles) × (has_bit old (block_of u l.cell) l.bit (bit_of l.cell) ≡ true) = has-bit_of u old l h in
     bit-has u new l parts.0 (bits (block_of u l.cell) l.bit (bit_of l.cell) parts.1)
 
-module _ (u : Unrolling) (is : IsProblem u) (t : Task) (old new : PlaneSet) (blocks : List Block) (view out : List PinWord)
-    (blocks_is : blocks ≡ blocks_of u t) (view_is : view ≡ map (words_at old) blocks) (exact : IsForcedExactly u t blocks view out) (joins : JoinsFirst blocks out (length blocks) old new) where
+module _ (u : Unrolling) (is : IsProblem u) (t : Task) (seen old new : PlaneSet) (blocks : List Block) (view out : List PinWord)
+    (blocks_is : blocks ≡ blocks_of u t) (view_is : view ≡ map (words_at seen) blocks) (exact : IsForcedExactly u t blocks view out) (joins : JoinsFirst blocks out (length blocks) old new) where
   listed : (c : Cell) → IsCellOf u t c → Contains blocks (block_of u c)
   listed c of = subst (λ bs. Contains bs (block_of u c)) (sym blocks_is) (have_its_cells u t c is of)
 
   -- on the task's cells the view has what the planes have
-  in-view : (c : Cell) (bit : Bool) → IsCellOf u t c → has u old (lit c bit) ≡ true → view_has u blocks view (lit c bit) ≡ true
+  in-view : (c : Cell) (bit : Bool) → IsCellOf u t c → has u seen (lit c bit) ≡ true → view_has u blocks view (lit c bit) ≡ true
   in-view c bit of h =
       ap (λ ws. ltb c.cycle u.cycles && is_set (word_for bit (words_of blocks ws (block_of u c))) (bit_of c)) view_is
-      ∙ ap (λ w. ltb c.cycle u.cycles && is_set (word_for bit w) (bit_of c)) (words-listed blocks (words_at old) (block_of u c) (listed c of)) ∙ h
+      ∙ ap (λ w. ltb c.cycle u.cycles && is_set (word_for bit w) (bit_of c)) (words-listed blocks (words_at seen) (block_of u c) (listed c of)) ∙ h
 
   -- and it has nothing else
-  from-view : (l : Lit) → view_has u blocks view l ≡ true → has u old l ≡ true
+  from-view : (l : Lit) → view_has u blocks view l ≡ true → has u seen l ≡ true
   from-view l h =
-      let seen : (ltb l.cell.cycle u.cycles && is_set (word_for l.bit (words_of blocks (map (words_at old) blocks) (block_of u l.cell))) (bit_of l.cell)) ≡ true =
+      let found : (ltb l.cell.cycle u.cycles && is_set (word_for l.bit (words_of blocks (map (words_at seen) blocks) (block_of u l.cell))) (bit_of l.cell)) ≡ true =
       ap (λ ws. ltb l.cell.cycle u.cycles && is_set (word_for l.bit (words_of blocks ws (block_of u l.cell))) (bit_of l.cell)) (sym view_is) ∙ h in
-      elim (words-or-none blocks (words_at old) (block_of u l.cell)) [
-        | inl e ↦ ap (λ w. ltb l.cell.cycle u.cycles && is_set (word_for l.bit w) (bit_of l.cell)) (sym e) ∙ seen
+      elim (words-or-none blocks (words_at seen) (block_of u l.cell)) [
+        | inl e ↦ ap (λ w. ltb l.cell.cycle u.cycles && is_set (word_for l.bit w) (bit_of l.cell)) (sym e) ∙ found
         | inr e ↦
-            absurd (true≢false (sym (and_parts (ltb l.cell.cycle u.cycles) (is_set (word_for l.bit (words_of blocks (map (words_at old) blocks) (block_of u l.cell))) (bit_of l.cell)) seen).1
+            absurd (true≢false (sym (and_parts (ltb l.cell.cycle u.cycles) (is_set (word_for l.bit (words_of blocks (map (words_at seen) blocks) (block_of u l.cell))) (bit_of l.cell)) found).1
             ∙ ap (λ w. is_set (word_for l.bit w) (bit_of l.cell)) e ∙ unset l.bit))
       ]
     where
@@ -117,11 +117,11 @@ module _ (u : Unrolling) (is : IsProblem u) (t : Task) (old new : PlaneSet) (blo
       below : (n : ℕ) → n % 64 < 64
       below n = omega arith
 
-  pub turns : Turns u t old new
-  turns = record {
+  pub adds-forced : AddsForced u t seen old new
+  adds-forced = record {
     done = λ l f.
-        let early : l.cell.cycle < u.cycles = forced-in_time u t (has u old) l f in
-        let seen : ForcedIn u t (view_has u blocks view) l = forced-on_cells u t (has u old) (view_has u blocks view) in-view l f in
+        let early : l.cell.cycle < u.cycles = forced-in_time u t (has u seen) l f in
+        let seen : ForcedIn u t (view_has u blocks view) l = forced-on_cells u t (has u seen) (view_has u blocks view) in-view l f in
         let of : IsCellOf u t l.cell = record { place = f.place; belongs = f.belongs; instance = f.forces.instance; stands = f.forces.stands; has_cell = f.forces.forces.on_cells } in
         let there : Contains blocks (block_of u l.cell) = listed l.cell of in
         let at : get_or blocks there.0 (record { 0 = 0 }) ≡ block_of u l.cell = get_or_default blocks there.0 (record { 0 = 0 }) (block_of u l.cell) there.1 ∙ there.2 in
@@ -132,7 +132,7 @@ module _ (u : Unrolling) (is : IsProblem u) (t : Task) (old new : PlaneSet) (blo
         let parts : (l.cell.cycle < u.cycles) × (has_bit new (block_of u l.cell) l.bit (bit_of l.cell) ≡ true) = has-bit_of u new l h in
         elim (joins.only (block_of u l.cell) l.bit (bit_of l.cell) parts.1) [
           | inl before ↦ inl (bit-has u old l parts.0 before)
-          | inr among ↦ inr (forced-on_cells u t (view_has u blocks view) (has u old) (λ c bit of. from-view (lit c bit)) l
+          | inr among ↦ inr (forced-on_cells u t (view_has u blocks view) (has u seen) (λ c bit of. from-view (lit c bit)) l
               (subst (ForcedIn u t (view_has u blocks view)) (at-place l among.place parts.0 among.block)
               ((exact among.place (bit_of l.cell) l.bit among.first (lane l)).0 among.set)))
         ];
@@ -222,12 +222,10 @@ pub blocks-at : (u : Unrolling) (s : Sig) (chunk : ℕ) → chunk < chunks_in u 
 blocks-at u s chunk early =
     sym (ap (λ x. blocks_from u x (chunk_of u (task_at u s chunk))) (block-sig u s chunk early) ∙ ap (blocks_from u s) (block-chunk u s chunk early))
 
--- the turn, from what its parts say
-pub turn-is : (u : Unrolling) → IsProblem u → (s : Sig) (chunk : ℕ) → chunk < chunks_in u → (old new : PlaneSet) (blocks : List Block) (places : List InChunk) (view before out : List PinWord)
-    → blocks ≡ blocks_from u s chunk → Sees u old (blocks_from u s chunk) places view before → IsForcedExactly u (task_at u s chunk) blocks view out
-    → JoinsFirst (map (block_in u) places) out (length places) old new → Turns u (task_at u s chunk) old new
-turn-is u is s chunk early old new blocks places view before out blocks_is sees exact joins =
-    let same : map (block_in u) places ≡ blocks = sees.places_are ∙ sym blocks_is in
-    let size : length places ≡ length blocks = sym (length-map places (block_in u)) ∙ ap length same in
-    turns u is (task_at u s chunk) old new blocks view out (blocks_is ∙ blocks-at u s chunk early) (sees.view_is ∙ ap (map (words_at old)) (sym blocks_is)) exact
-    (subst (λ n. JoinsFirst blocks out n old new) size (subst (λ bs. JoinsFirst bs out (length places) old new) same joins))
+-- what was forced is added, where its words are joined into the blocks
+pub forced-added : (u : Unrolling) (s : Sig) (chunk : ℕ) → chunk < chunks_in u → (seen old new : PlaneSet) (places : List InChunk) (view out : List PinWord)
+    → AreForced u seen s chunk places view out → JoinsFirst (map (block_in u) places) out (length places) old new → AddsForced u (task_at u s chunk) seen old new
+forced-added u s chunk early seen old new places view out are joins =
+    let size : length places ≡ length (blocks_from u s chunk) = sym (length-map places (block_in u)) ∙ ap length are.places_are in
+    adds-forced u are.problem (task_at u s chunk) seen old new (blocks_from u s chunk) view out (blocks-at u s chunk early) are.view_is are.exact
+    (subst (λ n. JoinsFirst (blocks_from u s chunk) out n old new) size (subst (λ bs. JoinsFirst bs out (length places) old new) are.places_are joins))

@@ -79,10 +79,10 @@ module _ (u : Unrolling) (s : Sig) (chunk : ℕ) (w : PinWord) (old : PlaneSet) 
   }
 
   module _ (new : PlaneSet) (is : new ≡ with_words old (block_at u s chunk) (joined here w)) where
-    there : words_at new (block_at u s chunk) ≡ joined here w
+    pub there : words_at new (block_at u s chunk) ≡ joined here w
     there = ap (λ p. words_at p (block_at u s chunk)) is ∙ words-there old (block_at u s chunk) (joined here w) within
 
-    elsewhere : (a : Block) → (a.0 ≡ (block_at u s chunk).0 → ⊥) → words_at new a ≡ words_at old a
+    pub elsewhere : (a : Block) → (a.0 ≡ (block_at u s chunk).0 → ⊥) → words_at new a ≡ words_at old a
     elsewhere a apart = ap (λ p. words_at p a) is ∙ words-elsewhere old (block_at u s chunk) a (joined here w) apart
 
     pub joins-new : Joins (block_at u s chunk) w old new
@@ -99,18 +99,23 @@ module _ (u : Unrolling) (s : Sig) (chunk : ℕ) (w : PinWord) (old : PlaneSet) 
       ];
     }
 
+    -- no bit is lost
+    pub bits-new : (a : Block) (bit : Bool) (i : ℕ) → has_bit old a bit i ≡ true → has_bit new a bit i ≡ true
+    bits-new a bit i h =
+        elim (cases_eq a.0 (block_at u s chunk).0) [
+          | inl same ↦
+              let one : a ≡ block_at u s chunk = ap (λ n. record { 0 = n }) same in
+              ap (λ b. has_bit new b bit i) one ∙ ap (λ x. is_set (word_for bit x) i) there ∙ joined-bit here w bit i
+              ∙ or_left (is_set (word_for bit here) i) (is_set (word_for bit w) i) (ap (λ x. is_set (word_for bit x) i) here_is ∙ ap (λ b. has_bit old b bit i) (sym one) ∙ h)
+          | inr other ↦ ap (λ x. is_set (word_for bit x) i) (elsewhere a other) ∙ h
+        ]
+
     pub wakes-new : (fresh : ℕ) → ((i : ℕ) (bit : Bool) → is_set fresh i ≡ false → is_set (word_for bit (joined here w)) i ≡ is_set (word_for bit here) i)
         → (before after : Waiting) → IsOf u new → Pushed u (woken_from u s chunk fresh) before after → Wakes u old new before after
     wakes-new fresh not_fresh before after new_of p = record {
       of = new_of;
       are_tasks = p.are_tasks;
-      bits = λ a bit i h. elim (cases_eq a.0 (block_at u s chunk).0) [
-        | inl same ↦
-            let one : a ≡ block_at u s chunk = ap (λ n. record { 0 = n }) same in
-            ap (λ b. has_bit new b bit i) one ∙ ap (λ x. is_set (word_for bit x) i) there ∙ joined-bit here w bit i
-            ∙ or_left (is_set (word_for bit here) i) (is_set (word_for bit w) i) (ap (λ x. is_set (word_for bit x) i) here_is ∙ ap (λ b. has_bit old b bit i) (sym one) ∙ h)
-        | inr other ↦ ap (λ x. is_set (word_for bit x) i) (elsewhere a other) ∙ h
-      ];
+      bits = bits-new;
       kept = p.kept;
       first = p.first;
       woken = λ t. elim (member-cases (woken_from u s chunk fresh) t) [

@@ -1,50 +1,34 @@
--- Levels as planes: what is joined into them, and which tasks are listed for the next one.
-use Rattle.std.specs.Prelude.{ℕ, ◌≡◌, ◌<◌, ◌≤◌, ◌⊎◌, ◌+◌, ◌*◌, ◌/◌, ◌%◌, Bool, true, false, List, length, slice_index_or}
-use Rattle.std.specs.List.{Contains, count_by, range_with_len}
+-- Levels as planes: the tasks that may force more from one, and what the next one has.
+use Rattle.std.specs.Prelude.{ℕ, ◌≡◌, ◌<◌, ◌≤◌, ◌⊎◌, ◌+◌, ◌*◌, ◌/◌, ◌%◌, [], Bool, true, false, IsFalse, List, map}
+use Rattle.std.specs.List.{All, Contains, count_by, range_with_len}
 use Rattle.sr_model.specs.declared.cells.Cell.{Cell}
 use Rattle.sr_model.specs.declared.cells.Lit.{Lit}
-use Rattle.sr_model.specs.Closure.{LitSet, ForcesSomewhere, SameLits, lit}
+use Rattle.sr_model.specs.Closure.{ForcesSomewhere, HasBoth, SameLits, lit}
 use Rattle.unroll.specs.declared.problem.Block.{Block}
-use Rattle.unroll.specs.declared.problem.Task.{Task}
-use Rattle.unroll.specs.declared.words.PinWord.{PinWord}
-use Rattle.unroll.specs.Bits.{is_set, word_for}
-use Rattle.unroll.specs.Problem.{Unrolling, IsProblem, unrolled, signals_in, blocks_in, block_of, bit_of}
-use Rattle.unroll.specs.Tasks.{IsTask, adjacent_tasks}
-use Rattle.gate_rules.specs.Lanes.{words_at as words_in}
-use Rattle.plain_close.specs.Turns.{IsDone}
+use Rattle.unroll.specs.Problem.{Unrolling, IsProblem, unrolled, signals_in}
 use Rattle.known_planes.specs.Planes.{PlaneSet, IsOf, has, lits, words_at}
+use Rattle.plain_close.specs.declared.task_queues.InChunk.{InChunk}
 use Rattle.plain_close.specs.declared.levels.Level.{Level}
-use Rattle.plain_close.specs.declared.level_tasks.Buffers.{Buffers}
+use Rattle.plain_close.specs.Turns.{AreTasksOf, IsSettled, IsInside, block_in, has_bit}
 
--- the task's flag is set
-abbrev pub is_listed : List Bool → Task → Bool
-is_listed listed t = slice_index_or listed t.0 false
+-- The next planes have what the others have. Where their words differ the block is noted, and where one is noted they have a literal more.
+pub record IsNoted (u : Unrolling) (planes next : PlaneSet) (changed : List InChunk) : Type 0 where
+  pub of : IsOf u next
+  pub kept : (b : Block) (bit : Bool) (i : ℕ) → has_bit planes b bit i ≡ true → has_bit next b bit i ≡ true
+  pub inside : All (IsInside u) changed
+  pub noted : (b : Block) → (words_at next b ≡ words_at planes b) ⊎ Contains (map (block_in u) changed) b
+  pub more : (changed ≡ []) ⊎ ((l : Lit) × (has u planes l ≡ false) × (has u next l ≡ true))
 
--- a literal that stands in the words of a block
-abbrev pub InWord : Unrolling → Block → PinWord → LitSet
-InWord u b word l = (l.cell.cycle < u.cycles) × (block_of u l.cell ≡ b) × (is_set (word_for l.bit word) (bit_of l.cell) ≡ true)
-
--- a literal that stands in the words of one of the first n blocks
-abbrev pub InWords : Unrolling → List Block → List PinWord → ℕ → LitSet
-InWords u blocks words n l = (j : ℕ) × (j < n) × InWord u (slice_index_or blocks j (record { 0 = 0 })) (words_in words j) l
-
--- The new level has what the old one has, and more only of the literals that may be joined. The tasks of each block whose words changed are listed.
-pub record Joins (u : Unrolling) (may : LitSet) (old new : Level) (added : Bool) : Type 0 where
-  pub of : IsOf u new.planes
-  pub size : length new.listed.items ≡ blocks_in u
-  pub kept : (l : Lit) → has u old.planes l ≡ true → has u new.planes l ≡ true
-  pub allowed : (l : Lit) → has u new.planes l ≡ true → (has u old.planes l ≡ true) ⊎ may l
-  pub still_listed : (t : Task) → is_listed old.listed.items t ≡ true → is_listed new.listed.items t ≡ true
-  pub listed : (b : Block) → (words_at new.planes b ≡ words_at old.planes b) ⊎ ((t : Task) → Contains (adjacent_tasks u b) t → is_listed new.listed.items t ≡ true)
-  pub more : added ≡ true → (l : Lit) × (has u old.planes l ≡ false) × (has u new.planes l ≡ true)
-  pub same : added ≡ false → new.planes ≡ old.planes
-
--- a level of a problem, with each task that is not done listed
+-- a level of a problem: each task waits or is done, and the next planes are equal to its own
 pub record IsLevel (u : Unrolling) (at : Level) : Type 0 where
   pub problem : IsProblem u
   pub of : IsOf u at.planes
-  pub size : length at.listed.items ≡ blocks_in u
-  pub done : (t : Task) → IsTask u t → is_listed at.listed.items t ≡ false → IsDone u t (has u at.planes)
+  pub next_of : IsOf u at.next.planes
+  pub same : (b : Block) → words_at at.next.planes b ≡ words_at at.planes b
+  pub are_tasks : AreTasksOf u at.queues
+  pub settled : IsSettled u at.planes at.queues
+  pub no_clash : IsFalse at.may_clash → (c : Cell) → HasBoth (lits u at.planes) c → ⊥
+  pub room : 1025 ≤ at.buffers.blocks.room
 
 -- the cell with this number, by cycle and then by signal
 abbrev pub cell_numbered : Unrolling → ℕ → Cell
@@ -63,7 +47,3 @@ pub record IsNext (u : Unrolling) (this next : Level) : Type 0 where
   pub is_level : IsLevel u next
   pub adds : SameLits (lits u next.planes) (λ l. lits u this.planes l ⊎ ForcesSomewhere (unrolled u) (lits u this.planes) l)
   pub more : lit_count u this.planes < lit_count u next.planes
-
--- a task's blocks, their words and what it forces there fit
-abbrev pub HasRoom : Buffers → Type 0
-HasRoom buffers = (1025 ≤ buffers.blocks.room) × (1025 ≤ buffers.view.room) × (1025 ≤ buffers.out.room)

@@ -12,9 +12,9 @@ use Rattle.unroll.specs.declared.problem.Block.{Block}
 use Rattle.unroll.specs.declared.problem.Task.{Task}
 use Rattle.unroll.specs.declared.words.PinWord.{PinWord}
 use Rattle.unroll.specs.Bits.{is_set, word_for}
-use Rattle.unroll.specs.Problem.{Unrolling, unrolled, signals_in, chunks_in, block_at}
-use Rattle.unroll.specs.Tasks.{IsTask, IsCellOf, task_at, target_of, chunk_of}
-use Rattle.gate_rules.specs.Forced.{ForcedIn, bit_at_place}
+use Rattle.unroll.specs.Problem.{Unrolling, IsProblem, unrolled, signals_in, chunks_in, block_at}
+use Rattle.unroll.specs.Tasks.{IsTask, IsCellOf, task_at, target_of, chunk_of, blocks_from}
+use Rattle.gate_rules.specs.Forced.{ForcedIn, HasNoLaterBit, IsForcedExactly, bit_at_place}
 use Rattle.known_planes.specs.Planes.{PlaneSet, has, lits, words_at, IsOf}
 use Rattle.plain_close.specs.declared.task_queues.InChunk.{InChunk}
 use Rattle.plain_close.specs.Queues.{Waiting, Waits, IsFirst}
@@ -129,10 +129,24 @@ pub record Sees (u : Unrolling) (planes : PlaneSet) (blocks : List Block) (place
 abbrev pub HaveNoClash : PlaneSet → List Block → Type 0
 HaveNoClash planes blocks = (b : Block) (i : ℕ) → Contains blocks b → has_bit planes b false i ≡ true → has_bit planes b true i ≡ true → ⊥
 
--- a turn of a task adds what it forces from the old literals, and nothing else
-pub record Turns (u : Unrolling) (t : Task) (old new : PlaneSet) : Type 0 where
-  pub done : (l : Lit) → ForcedIn u t (has u old) l → has u new l ≡ true
-  pub only : (l : Lit) → has u new l ≡ true → (has u old l ≡ true) ⊎ ForcedIn u t (has u old) l
+-- what the buffers have once a task was seen: where its blocks lie, their words, and what it forces there
+pub record AreForced (u : Unrolling) (planes : PlaneSet) (target : Sig) (chunk : ℕ) (places : List InChunk) (view out : List PinWord) : Type 0 where
+  pub problem : IsProblem u
+  pub inside : All (IsInside u) places
+  pub places_are : map (block_in u) places ≡ blocks_from u target chunk
+  pub view_is : view ≡ map (words_at planes) (blocks_from u target chunk)
+  pub out_size : length out ≡ length places
+  pub exact : IsForcedExactly u (task_at u target chunk) (blocks_from u target chunk) view out
+  pub later : HasNoLaterBit u (map (block_in u) places) out
+
+-- what a task forces from the seen literals is added, and nothing else
+pub record AddsForced (u : Unrolling) (t : Task) (seen old new : PlaneSet) : Type 0 where
+  pub done : (l : Lit) → ForcedIn u t (has u seen) l → has u new l ≡ true
+  pub only : (l : Lit) → has u new l ≡ true → (has u old l ≡ true) ⊎ ForcedIn u t (has u seen) l
+
+-- a turn of a task adds what it forces from the old literals
+abbrev pub Turns : Unrolling → Task → PlaneSet → PlaneSet → Type 0
+Turns u t old new = AddsForced u t old old new
 
 -- after some turns: nothing is lost, and all is in the closure
 pub record Between (u : Unrolling) (old new : PlaneSet) (after : Waiting) : Type 0 where

@@ -1,12 +1,16 @@
 //! The levels between a base and its closure, and the first one that has both literals of a cell.
-ghost use Rattle.std.specs.Prelude.{ℕ, ◌≡◌, ◌<◌, ◌≤◌, ⊤, IfOk, IfSome, IsNone, OnOk, length, true};
+ghost use Rattle.std.specs.Prelude.{◌<◌, IfOk, IfSome, IsNone, IsTrue, IsFalse};
 ghost use Rattle.sr_model.specs.declared.cells.Cell.{Cell as AnyCell};
-ghost use Rattle.sr_model.specs.Closure.{Closure, HasBoth, IsClash, IsClosed};
-ghost use Rattle.unroll.specs.Problem.{unrolled};
+ghost use Rattle.sr_model.specs.Closure.{Closure, HasBoth, IsClash, IsClosed, SameLits};
+ghost use Rattle.unroll.specs.Problem.{signals_in, unrolled};
 ghost use Rattle.known_planes.specs.Planes.{IsOf, lits};
-ghost use Rattle.plain_close.specs.Levels.{HasRoom, IsLevel, IsNext};
+ghost use Rattle.known_planes.specs.Clash.{IsLeastClash};
+ghost use Rattle.plain_close.specs.Levels.{IsLevel, IsNext};
 
-use crate::level_tasks::{Buffers, force_listed};
+use crate::next_level::{NextLevel, force_waiting, take_changed};
+use crate::plain_closer::begin;
+use crate::task_queues::TaskQueues;
+use crate::turns::Buffers;
 use known_planes::Planes;
 use sr_model::{Cell, NoMemory};
 use std::alloc::Global;
@@ -19,76 +23,91 @@ pub struct Clash {
     pub level: u32,
 }
 
-/// The literals of a level, and a flag for each block: whether the task of its number is listed, as it may force more.
-#[derive(Drop)]
-pub(crate) struct Level {
-    pub(crate) planes: Planes,
-    pub(crate) listed: Vec<bool>,
-}
-
 /// The least cell with both literals in the first level that has one; None exactly where the closure of the base has none.
 ///
-/// It takes the memory of two planes and of two flags a block. Each level is a copy of the one before, and takes time linear in the blocks, and for its listed tasks:
-/// in the first one these are all tasks, and later those that are in a block of which a literal was added.
+/// It takes the memory of two planes, a byte for each signal and chunk, and 8 bytes for each task that waits and for each block that a level changes. The base and the
+/// level of the clash are looked through once. A level takes time for the tasks that wait there, which are those that a literal of the level before is in, and for the
+/// blocks that they change, and a step for each chunk.
 pub fn first_clash(alloc: Global, p: &Problem, base: &Planes) -> Result<Option<Clash>, NoMemory>
     requires { IsOf p.now base.now }
     ensures some { IfOk result (λ found. IfSome found (λ clash. IsClash (unrolled p.now) (lits p.now base.now) clash.cell clash.level)) }
+    ensures within { IfOk result (λ found. IfSome found (λ clash. clash.cell.sig.0 < signals_in p.now)) }
     ensures none { IfOk result (λ found. IsNone found → (c : AnyCell) → HasBoth (Closure (unrolled p.now) (lits p.now base.now)) c → ⊥) }
 {
-    let mut buffers = Buffers::new(alloc)?;
     let mut level = Level::first(alloc, p, base)?;
     let mut number = 0;
     loop {
-        if let Some(cell) = level.planes.clash(p) {
+        if let Some(cell) = level.clash(p) {
             return Ok(Some(Clash {
                 cell,
                 level: number,
             }));
         }
-        let Some(next) = level.next(alloc, p, &mut buffers)? else {
+        if !level.advance(p)? {
             return Ok(None);
-        };
-        level = next;
+        }
         number += 1;
     }
 }
 
+/// The literals of a level, the tasks that may force more from them, and the planes that grow into the next level, which are equal to these when it begins.
+#[derive(Drop)]
+struct Level {
+    planes: Planes,
+    queues: TaskQueues,
+    next: NextLevel,
+    buffers: Buffers,
+    /// If not, no cell has both literals.
+    may_clash: bool,
+}
+
 impl Level {
-    /// The base, with all tasks listed.
+    /// The base.
     fn first(alloc: Global, p: &Problem, base: &Planes) -> Result<Level, NoMemory>
         requires { IsOf p.now base.now }
         ensures level { IfOk result (IsLevel p.now) }
-        ensures base { IfOk result (λ first. first.planes ≡ base.now) }
+        ensures base { IfOk result (λ first. SameLits (lits p.now first.planes) (lits p.now base.now)) }
     {
+        let start = begin(alloc, p, base)?;
+        let next = NextLevel::new(alloc, &start.planes)?;
         Ok(Level {
-            planes: base.copy(alloc)?,
-            listed: vec![in alloc; true; p.net().signals() as usize * p.chunks() as usize].map_err(
-                |_| NoMemory,
-            )?,
+            planes: start.planes,
+            queues: start.queues,
+            next,
+            buffers: Buffers::new(alloc)?,
+            may_clash: true,
         })
     }
 
-    /// The next level; None where it has no further literal.
-    fn next(
-        &self,
-        alloc: Global,
-        p: &Problem,
-        buffers: &mut Buffers,
-    ) -> Result<Option<Level>, NoMemory>
-        requires level { IsLevel p.now self.now }
-        requires room { HasRoom buffers.old }
-        ensures some { IfOk result (λ found. IfSome found (IsNext p.now self.now)) }
-        ensures none { IfOk result (λ found. IsNone found → IsClosed (unrolled p.now) (lits p.now self.now.planes)) }
-        ensures room { HasRoom buffers.new }
+    /// Goes on to the next level; false where it has no further literal.
+    fn advance(&mut self, p: &Problem) -> Result<bool, NoMemory>
+        requires level { IsLevel p.now self.old }
+        requires none { (c : AnyCell) → HasBoth (lits p.now self.old.planes) c → ⊥ }
+        ensures some { IfOk result (λ more. IsTrue more → IsNext p.now self.old self.new) }
+        ensures none { IfOk result (λ more. IsFalse more → IsClosed (unrolled p.now) (lits p.now self.old.planes)) }
     {
-        let mut next = Level {
-            planes: self.planes.copy(alloc)?,
-            listed: vec![in alloc; false; p.blocks() as usize].map_err(|_| NoMemory)?,
-        };
-        if force_listed(p, self, buffers, &mut next) {
-            Ok(Some(next))
-        } else {
-            Ok(None)
+        self.next.clear();
+        force_waiting(
+            p,
+            &self.planes,
+            &mut self.queues,
+            &mut self.buffers,
+            &mut self.next,
+        )?;
+        self.may_clash = take_changed(p, &self.next, &mut self.planes, &mut self.queues)?;
+        Ok(self.next.has_changed())
+    }
+
+    /// The least cell with both literals, if there is one.
+    fn clash(&self, p: &Problem) -> Option<Cell>
+        requires { IsLevel p.now self.now }
+        ensures some { IfSome result (IsLeastClash (lits p.now self.now.planes)) }
+        ensures within { IfSome result (λ c. c.sig.0 < signals_in p.now) }
+        ensures none { IsNone result → (c : AnyCell) → HasBoth (lits p.now self.now.planes) c → ⊥ }
+    {
+        if !self.may_clash {
+            return None;
         }
+        self.planes.clash(p)
     }
 }

@@ -1,9 +1,8 @@
 //! Closes a set of literals under the one-gate rules on one thread: by tasks that wait, and level by level up to the first clash.
 #![tactic(auto)]
 
-mod joins;
-mod level_tasks;
 mod levels;
+mod next_level;
 mod plain_closer;
 mod task_queues;
 #[cfg(test)]

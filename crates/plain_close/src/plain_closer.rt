@@ -1,12 +1,14 @@
 //! The closer with one list of tasks, on one thread.
-ghost use Rattle.std.specs.Prelude.{◌<◌, OnOk};
-ghost use Rattle.unroll.specs.Problem.{IsProblem, signals_in, chunks_in};
-ghost use Rattle.known_planes.specs.Planes.{IsOf};
+ghost use Rattle.std.specs.Prelude.{◌<◌, IfOk, OnOk};
+ghost use Rattle.sr_model.specs.declared.cells.Cell.{Cell as AnyCell};
+ghost use Rattle.sr_model.specs.Closure.{Closure, HasBoth, IsWithin, SameLits};
+ghost use Rattle.unroll.specs.Problem.{IsProblem, unrolled, signals_in, chunks_in};
+ghost use Rattle.known_planes.specs.Planes.{IsOf, lits};
 ghost use Rattle.unroll.specs.Tasks.{constant_tasks};
-ghost use Rattle.plain_close.specs.Turns.{AreTasksOf, Pushed, Wakes, Adds, AddsRow};
+ghost use Rattle.plain_close.specs.Turns.{AreTasksOf, IsSettled, Pushed, Wakes, Adds, AddsRow};
 
 use crate::task_queues::TaskQueues;
-use crate::turns::{Buffers, join, push_task, turn_all};
+use crate::turns::{Buffers, join, push_task, turn_all, turn_until_clash};
 use known_planes::{Closer, Planes};
 use sr_model::{NoMemory, Sig};
 use std::alloc::Global;
@@ -35,12 +37,14 @@ impl Closer for PlainCloser {
         p: &Problem,
         base: &Planes,
     ) -> Result<Planes, NoMemory> {
-        let mut planes = Planes::empty(alloc, p)?;
-        let mut queues = TaskQueues::new(alloc, p.net().signals(), p.chunks())?;
-        push_constants(alloc, p, &mut queues)?;
-        add_planes(p, &mut planes, &mut queues, base)?;
-        turn_all(p, &mut planes, &mut queues, &mut Buffers::new(alloc)?)?;
-        Ok(planes)
+        let mut start = begin(alloc, p, base)?;
+        turn_all(
+            p,
+            &mut start.planes,
+            &mut start.queues,
+            &mut Buffers::new(alloc)?,
+        )?;
+        Ok(start.planes)
     }
 
     fn close_more<R: Threads + Sync>(
@@ -57,6 +61,46 @@ impl Closer for PlainCloser {
         turn_all(p, &mut planes, &mut queues, &mut Buffers::new(alloc)?)?;
         Ok(planes)
     }
+
+    fn close_until_clash<R: Threads + Sync>(
+        &mut self,
+        _rt: &R,
+        alloc: Global,
+        p: &Problem,
+        base: &Planes,
+    ) -> Result<Planes, NoMemory> {
+        let mut start = begin(alloc, p, base)?;
+        turn_until_clash(
+            p,
+            &mut start.planes,
+            &mut start.queues,
+            &mut Buffers::new(alloc)?,
+        )?;
+        Ok(start.planes)
+    }
+}
+
+/// The literals of a base, and the tasks that may force something from them.
+#[derive(Drop)]
+pub(crate) struct Start {
+    pub(crate) planes: Planes,
+    pub(crate) queues: TaskQueues,
+}
+
+/// Copies the base, and lets the tasks wait that its literals are in, and the constant ones.
+pub(crate) fn begin(alloc: Global, p: &Problem, base: &Planes) -> Result<Start, NoMemory>
+    requires { IsOf p.now base.now }
+    ensures problem { OnOk result (IsProblem p.now) }
+    ensures of { IfOk result (λ start. IsOf p.now start.planes) }
+    ensures literals { IfOk result (λ start. SameLits (lits p.now start.planes) (lits p.now base.now)) }
+    ensures are_tasks { IfOk result (λ start. AreTasksOf p.now start.queues) }
+    ensures settled { IfOk result (λ start. IsSettled p.now start.planes start.queues) }
+{
+    let mut planes = Planes::empty(alloc, p)?;
+    let mut queues = TaskQueues::new(alloc, p.net().signals(), p.chunks())?;
+    push_constants(alloc, p, &mut queues)?;
+    add_planes(p, &mut planes, &mut queues, base)?;
+    Ok(Start { planes, queues })
 }
 
 /// Lets the constant tasks wait.

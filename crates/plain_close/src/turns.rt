@@ -1,7 +1,8 @@
 //! Turns of tasks: what a task forces is added, and the tasks about it wait again.
 ghost use Rattle.std.specs.Prelude.{ℕ, ◌≡◌, ◌+◌, ◌^◌, ◌<◌, ◌≤◌, ◌++◌, ◌∷◌, ◌⊎◌, [], Bool, true, false, length, map, IfOk, OnOk, IsFalse, IsTrue, All, List};
 ghost use Rattle.sr_model.specs.declared.cells.Sig.{Sig as AnySig};
-ghost use Rattle.sr_model.specs.Closure.{Closure, SameLits, IsClosed};
+ghost use Rattle.sr_model.specs.declared.cells.Cell.{Cell as AnyCell};
+ghost use Rattle.sr_model.specs.Closure.{Closure, HasBoth, IsWithin, SameLits, IsClosed};
 ghost use Rattle.netlist.specs.Wiring.{driver_at, is_flip_flop};
 ghost use Rattle.unroll.specs.declared.problem.Block.{Block as AnyBlock};
 ghost use Rattle.unroll.specs.Bits.{is_set, word_for};
@@ -10,7 +11,7 @@ ghost use Rattle.unroll.specs.Tasks.{task_at, blocks_from, blocks_for, goes_on_f
 ghost use Rattle.gate_rules.specs.Forced.{HasNoLaterBit};
 ghost use Rattle.known_planes.specs.Planes.{IsOf, has, lits, joined, HasNoFurtherBit};
 ghost use Rattle.plain_close.specs.Queues.{Waits, IsFirst, waiting_count};
-ghost use Rattle.plain_close.specs.Turns.{IsTaskAt, AreTasksOf, IsSettled, IsDone, IsInside, Pushed, Wakes, Falls, Joins, JoinsFirst, Sees, Turns, Between, HaveNoClash, block_in, missing_of, before_woken, chunk_woken, own_woken, woken_from, drives_itself};
+ghost use Rattle.plain_close.specs.Turns.{IsTaskAt, AreTasksOf, IsSettled, IsDone, IsInside, Pushed, Wakes, Falls, Joins, JoinsFirst, Sees, AreForced, Turns, Between, HaveNoClash, block_in, missing_of, before_woken, chunk_woken, own_woken, woken_from, drives_itself};
 
 use crate::task_queues::{InChunk, TaskQueues};
 use gate_rules::forced_in_chunk;
@@ -23,9 +24,9 @@ use unroll::{Blocks, PinWord, PinWords, Problem};
 #[derive(Drop)]
 pub struct Buffers {
     blocks: Blocks,
-    places: Sequence<InChunk>,
+    pub(crate) places: Sequence<InChunk>,
     view: PinWords,
-    out: PinWords,
+    pub(crate) out: PinWords,
 }
 
 impl Buffers {
@@ -56,34 +57,59 @@ pub fn turn_all(
     ensures of { OnOk result (IsOf p.now planes.new) }
     ensures closure { OnOk result (SameLits (lits p.now planes.new) (Closure (unrolled p.now) (lits p.now planes.old))) }
 {
-    while turn_to_next(p, planes, queues, buffers)? {}
+    while turn_to_next(p, planes, queues, buffers)?.added {}
     Ok(())
 }
 
-/// Takes turns until one adds something, and answers whether one did: if not, no task waits.
+/// Lets turns follow until no task waits, or one adds something and a cell of its blocks has both literals then.
+pub fn turn_until_clash(
+    p: &Problem,
+    planes: &mut Planes,
+    queues: &mut TaskQueues,
+    buffers: &mut Buffers,
+) -> Result<(), NoMemory>
+    requires of { IsOf p.now planes.old }
+    requires are_tasks { AreTasksOf p.now queues.old }
+    requires settled { IsSettled p.now planes.old queues.old }
+    requires room { 1025 ≤ buffers.old.blocks.room }
+    ensures of { OnOk result (IsOf p.now planes.new) }
+    ensures above { OnOk result (IsWithin (lits p.now planes.old) (lits p.now planes.new)) }
+    ensures within { OnOk result (IsWithin (lits p.now planes.new) (Closure (unrolled p.now) (lits p.now planes.old))) }
+    ensures closed { OnOk result (((c : AnyCell) → HasBoth (lits p.now planes.new) c → ⊥) → SameLits (lits p.now planes.new) (Closure (unrolled p.now) (lits p.now planes.old))) }
+{
+    while turn_to_next(p, planes, queues, buffers)?.goes_on() {}
+    Ok(())
+}
+
+/// Takes turns until one adds something, and answers how that went. If none does, no task waits.
 fn turn_to_next(
     p: &Problem,
     planes: &mut Planes,
     queues: &mut TaskQueues,
     buffers: &mut Buffers,
-) -> Result<bool, NoMemory>
+) -> Result<Turned, NoMemory>
     requires of { IsOf p.now planes.old }
     requires are_tasks { AreTasksOf p.now queues.old }
     requires settled { IsSettled p.now planes.old queues.old }
     requires room { 1025 ≤ buffers.old.blocks.room }
     ensures room { buffers.old.blocks.room ≤ buffers.new.blocks.room }
     ensures between { OnOk result (Between p.now planes.old planes.new queues.new) }
-    ensures fewer { IfOk result (λ added. IsTrue added → missing_of planes.new < missing_of planes.old) }
-    ensures closed { IfOk result (λ added. IsFalse added → IsClosed (unrolled p.now) (lits p.now planes.new)) }
+    ensures fewer { IfOk result (λ turned. IsTrue turned.added → missing_of planes.new < missing_of planes.old) }
+    ensures closed { IfOk result (λ turned. IsFalse turned.added → IsClosed (unrolled p.now) (lits p.now planes.new)) }
+    ensures clash { IfOk result (λ turned. IsTrue turned.clash → (c : AnyCell) × HasBoth (lits p.now planes.new) c) }
 {
     while let Some(task) = queues.first() {
         let turned = turn(p, task, planes, queues, buffers)?;
         take_turned(queues, task, turned.again);
         if turned.added {
-            return Ok(true);
+            return Ok(turned);
         }
     }
-    Ok(false)
+    Ok(Turned {
+        added: false,
+        clash: false,
+        again: false,
+    })
 }
 
 /// Takes a task that has had its turn, unless it is to have another one.
@@ -100,11 +126,22 @@ fn take_turned(queues: &mut TaskQueues, task: InChunk, again: bool)
     }
 }
 
-/// Whether a turn added something, and whether its task may force more now.
+/// Whether a turn added something, and then: whether a cell of its task's blocks has both literals, and whether its task may force more.
 #[derive(Clone, Copy)]
 struct Turned {
     added: bool,
+    clash: bool,
     again: bool,
+}
+
+impl Turned {
+    /// Whether something was added, and no cell of the task's blocks has both literals.
+    fn goes_on(self) -> bool
+        ensures yes { IsTrue result → IsTrue self.added }
+        ensures no { IsFalse result → IsFalse self.added ⊎ IsTrue self.clash }
+    {
+        self.added && !self.clash
+    }
 }
 
 /// The turn of a task, which waits on meanwhile.
@@ -125,37 +162,43 @@ fn turn(
     ensures turns { OnOk result (Turns p.now (task_at p.now task.sig task.chunk) planes.old planes.new) }
     ensures done { IfOk result (λ turned. IsFalse turned.again → IsDone p.now (task_at p.now task.sig task.chunk) (has p.now planes.new)) }
     ensures again { IfOk result (λ turned. IsFalse turned.added → IsFalse turned.again) }
+    ensures clash { IfOk result (λ turned. IsTrue turned.clash → (c : AnyCell) × HasBoth (lits p.now planes.new) c) }
 {
-    see(p, task, planes, buffers)?;
-    forced_in_chunk(
-        p,
-        task.sig,
-        task.chunk,
-        &buffers.blocks,
-        &buffers.view,
-        &mut buffers.out,
-    );
+    force(p, task, planes, buffers)?;
     let added = join_all(p, planes, queues, &buffers.places, &buffers.out)?;
-    let again = may_force_more(p, task, planes, &buffers.places, added);
-    Ok(Turned { added, again })
+    Ok(outcome(p, task, planes, &buffers.places, added))
 }
 
-/// Whether a task may force more after its turn: only where that added something, and one of its cells has both literals or its flip-flop drives itself.
-fn may_force_more(
+/// How a turn went. Its task may force more only where it added something, and one of its cells has both literals or its flip-flop drives itself.
+fn outcome(
     p: &Problem,
     task: InChunk,
     planes: &Planes,
     places: &Sequence<InChunk>,
     added: bool,
-) -> bool
+) -> Turned
     requires of { IsOf p.now planes.now }
     requires signal { task.sig.0 < signals_in p.now }
     requires inside { All (IsInside p.now) places.now.items }
-    ensures other { IsFalse result → IsTrue added → drives_itself p.now task.sig ≡ false }
-    ensures none { IsFalse result → IsTrue added → HaveNoClash planes.now (map (block_in p.now) places.now.items) }
-    ensures nothing { IsFalse added → IsFalse result }
+    ensures added { result.added ≡ added }
+    ensures other { IsFalse result.again → IsTrue added → drives_itself p.now task.sig ≡ false }
+    ensures none { IsFalse result.again → IsTrue added → HaveNoClash planes.now (map (block_in p.now) places.now.items) }
+    ensures nothing { IsFalse added → IsFalse result.again }
+    ensures clash { IsTrue result.clash → (c : AnyCell) × HasBoth (lits p.now planes.now) c }
 {
-    added && (have_clash(p, planes, places) || drives_itself(p, task.sig))
+    if !added {
+        return Turned {
+            added: false,
+            clash: false,
+            again: false,
+        };
+    }
+    let clash = have_clash(p, planes, places);
+    Turned {
+        added: true,
+        clash,
+        again: clash || drives_itself(p, task.sig),
+    }
 }
 
 /// Whether a cell of these blocks has both literals.
@@ -163,6 +206,7 @@ fn have_clash(p: &Problem, planes: &Planes, places: &Sequence<InChunk>) -> bool
     requires of { IsOf p.now planes.now }
     requires inside { All (IsInside p.now) places.now.items }
     ensures none { IsFalse result → HaveNoClash planes.now (map (block_in p.now) places.now.items) }
+    ensures some { IsTrue result → (c : AnyCell) × HasBoth (lits p.now planes.now) c }
 {
     for at in places.as_slice() {
         let words = planes.word_in_chunk(p, at.sig, at.chunk);
@@ -180,6 +224,31 @@ fn drives_itself(p: &Problem, sig: Sig) -> bool
 {
     let net = p.net();
     matches!(net.kind_of(sig), Some(Kind::Dff)) && net.pins_of(sig).contains(&sig)
+}
+
+/// Puts the blocks of a task, and what it forces there from their words, into the buffers.
+pub(crate) fn force(
+    p: &Problem,
+    task: InChunk,
+    planes: &Planes,
+    buffers: &mut Buffers,
+) -> Result<(), NoMemory>
+    requires of { IsOf p.now planes.now }
+    requires task { IsTaskAt p.now task.sig task.chunk }
+    requires room { 1025 ≤ buffers.old.blocks.room }
+    ensures room { buffers.old.blocks.room ≤ buffers.new.blocks.room }
+    ensures forced { OnOk result (AreForced p.now planes.now task.sig task.chunk buffers.new.places.items buffers.new.view.items buffers.new.out.items) }
+{
+    see(p, task, planes, buffers)?;
+    forced_in_chunk(
+        p,
+        task.sig,
+        task.chunk,
+        &buffers.blocks,
+        &buffers.view,
+        &mut buffers.out,
+    );
+    Ok(())
 }
 
 /// Puts the blocks of a task, and their words, into the buffers.
@@ -313,7 +382,7 @@ pub fn join(
 
 /// The literals of both.
 #[tactic(auto, using(crate::proofs::Waking::or_small))]
-fn union(a: PinWord, b: PinWord) -> PinWord
+pub(crate) fn union(a: PinWord, b: PinWord) -> PinWord
     ensures joined { result ≡ joined a b }
     ensures small_zero { result.zero < 2 ^ 64 }
     ensures small_one { result.one < 2 ^ 64 }

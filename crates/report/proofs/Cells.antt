@@ -7,7 +7,7 @@ use Rattle.std.proofs.lemmas.List.{append-nil}
 use Rattle.std.proofs.lemmas.Grind.{take-set_at}
 use Rattle.std.proofs.lemmas.Simd.{map-map}
 use Rattle.std.proofs.lemmas.Option.{get_or_from_slice_get}
-use Rattle.std.proofs.lemmas.List.FromFn.{map-range_with_len_more}
+use Rattle.std.proofs.lemmas.List.FromFn.{length-map-range_with_len, map-range_with_len_more, take-map-range_with_len}
 use Rattle.sr_model.specs.declared.cells.Sig.{Sig}
 use Rattle.sr_model.specs.Netlist.{cell_at}
 use Rattle.sr_model.specs.Closure.{lit}
@@ -65,12 +65,15 @@ more_cells u planes s chunk n words is few within =
     ap bit_character (sym (bit-known u planes s chunk i words (omega (arith, lt, few)) (omega (arith, lt, within)) is)))
 
 -- a character more of a chunk
-pub more_characters : (words : PinWord) (start i character : ℕ) (old bytes : List ℕ) → start + i < length bytes → character ≡ bit_character (word_bit words i)
-    → take (start + i) bytes ≡ take start old ++ word_text words i → take (start + (i + 1)) (set bytes (start + i) character) ≡ take start old ++ word_text words (i + 1)
-more_characters words start i character old bytes within is before =
-    take-set_at bytes (start + i) (start + (i + 1)) character (omega arith) within ∙ ap (λ xs. xs ++ character ∷ []) before
-    ∙ append_assoc (take start old) (word_text words i) (character ∷ []) ∙ ap (λ x. take start old ++ (word_text words i ++ x ∷ [])) is
-    ∙ ap (λ xs. take start old ++ xs) (sym (map-range_with_len_more (λ n. bit_character (word_bit words n)) 0 i i (omega arith)))
+pub more_characters : (words : PinWord) (i character : ℕ) (characters : List ℕ) → i < length characters → character ≡ bit_character (word_bit words i) → take i characters ≡ word_text words i
+    → take (i + 1) (set characters i character) ≡ word_text words (i + 1)
+more_characters words i character characters within is before =
+    take-set_at characters i (i + 1) character (omega arith) within ∙ ap (λ xs. xs ++ character ∷ []) before ∙ ap (λ x. word_text words i ++ x ∷ []) is
+    ∙ sym (map-range_with_len_more (λ n. bit_character (word_bit words n)) 0 i i (omega arith))
+
+-- the first ones
+pub first_characters : (words : PinWord) (n : ℕ) (characters : List ℕ) → n ≤ 64 → characters ≡ word_text words 64 → take n characters ≡ word_text words n
+first_characters words n characters few is = ap (take n) is ∙ take-map-range_with_len (λ i. bit_character (word_bit words i)) 0 64 n few
 
 -- a chunk more of a row
 pub more_chunks : (u : Unrolling) (planes : PlaneSet) (s : Sig) (chunk n start : ℕ) (words : PinWord) (old mid new : List ℕ) → words ≡ words_at planes (block_at u s chunk) → chunk < chunks_in u
@@ -93,3 +96,6 @@ pub row_made : (c : Circuit) (cycles : ℕ) (known : Lit → Bool) (s : Sig) (na
 row_made c cycles known s name is =
     ap (λ bytes. bytes ++ codes " " ++ cells_text known s cycles ++ 10 ∷ []) (sym (get_or_from_slice_get c.names s.0 name [] is))
     ∙ ap (λ cells. slice_index_or c.names s.0 [] ++ codes " " ++ cells ++ 10 ∷ []) (sym (map-map bit_character (λ t. known_bit known t s) (range_with_len 0 cycles)))
+
+pub long_as : (words : PinWord) (n : ℕ) → length (word_text words n) ≡ n
+long_as words n = length-map-range_with_len (λ i. bit_character (word_bit words i)) 0 n

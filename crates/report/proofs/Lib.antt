@@ -1,7 +1,8 @@
 pub mod Cells
-pub mod Counting
+pub mod CommentLine
 pub mod InTurn
 pub mod Joined
 pub mod KeyedWords
+pub mod KnownRows
 pub mod LinePieces
 pub mod Tables

@@ -57,6 +57,13 @@ abbrev pub word_line : List (List ℕ) → WordRefusal → List ℕ
 word_line words word_refusals.Usage = codes "srestore: words: 22 usage\n"
 word_line words (word_refusals.Number place) = codes "srestore: words: 23 number " ++ key_of (word_at words place) ++ codes "\n"
 
+-- a name is that of no signal, or stands twice
+abbrev pub unknown_trace_line : List ℕ → List ℕ
+unknown_trace_line name = codes "srestore: words: 26 unknown trace " ++ name ++ codes "\n"
+
+abbrev pub trace_twice_line : List ℕ → List ℕ
+trace_twice_line name = codes "srestore: words: 27 trace twice " ++ name ++ codes "\n"
+
 abbrev pub many_cells_line : ℕ → List ℕ
 many_cells_line product = codes "srestore: words: 17 too many cells " ++ decimal product ++ codes "\n"
 
@@ -68,6 +75,6 @@ refusal_line words (refusals.Words refusal) = word_line words refusal
 refusal_line words (refusals.TooLong part) = too_long_line part
 refusal_line words (refusals.Fault part) = fault_line part
 refusal_line words (refusals.CellsByWords product) = many_cells_line product
-refusal_line words (refusals.TraceUnknown place item) = codes "srestore: words: 26 unknown trace " ++ item_of words place item ++ codes "\n"
-refusal_line words (refusals.TraceTwice place item) = codes "srestore: words: 27 trace twice " ++ item_of words place item ++ codes "\n"
+refusal_line words (refusals.TraceUnknown place item) = unknown_trace_line (item_of words place item)
+refusal_line words (refusals.TraceTwice place item) = trace_twice_line (item_of words place item)
 refusal_line words refusals.NoMemory = no_memory_line

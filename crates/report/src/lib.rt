@@ -2,14 +2,18 @@
 #![tactic(auto)]
 
 mod clash;
+mod laws;
 mod pieces;
 mod refusal;
 mod refusal_lines;
 mod row_buf;
 mod table;
+#[cfg(test)]
+mod tests;
 mod word_lines;
 
 pub use clash::write_clash;
+pub use laws::table_laws;
 pub use refusal::{Part, Refusal, WordRefusal, write_refusal};
 pub use row_buf::RowBuf;
 pub use table::write_table;

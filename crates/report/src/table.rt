@@ -41,7 +41,7 @@ pub fn write_table<K: Sink>(
 {
     write_head(p, out)?;
     write_rows(p, planes, all, buf, out)?;
-    write_ratio_line(count_known(p, planes), traced, out)
+    write_ratio_line(planes.count_known_flip_flops(p), traced, out)
 }
 
 /// Writes the lines before the rows.
@@ -174,9 +174,18 @@ fn fill_chunk(words: PinWord, count: u32, bytes: &mut [u8], start: usize)
     ensures size { length bytes.new ≡ length bytes.old }
     ensures text { take (start + count) bytes.new ≡ take start bytes.old ++ word_text words count }
 {
-    for i in 0..count {
-        bytes[start + i as usize] = character(words, i);
+    put_text(&characters(words)[..count as usize], bytes, start);
+}
+
+/// The characters of the 64 cycles of a chunk. They are made in an array, whose length is known, and not in the row, so that many are made at once.
+fn characters(words: PinWord) -> [u8; 64]
+    ensures { result ≡ word_text words 64 }
+{
+    let mut characters = [b'x'; 64];
+    for i in 0..64_u32 {
+        characters[i as usize] = character(words, i);
     }
+    characters
 }
 
 /// The character of cycle i of a chunk. Both bits are taken first, so that there is no branch.
@@ -197,17 +206,6 @@ fn is_set(word: u64, i: u32) -> bool
     ensures { result ≡ is_set word i }
 {
     (word >> i) & 1 == 1
-}
-
-/// How many flip-flop cells are known.
-fn count_known(p: &Problem, planes: &Planes) -> u64
-    requires { IsOf p.now planes.now }
-    ensures value { result ≡ known_count p.now.circuit p.now.cycles (has p.now planes.now) }
-    ensures few { result ≤ 536870912 }
-{
-    // Its contract bounds the signals and the cycles.
-    let _net = p.net();
-    planes.count_known_flip_flops(p)
 }
 
 /// Writes how many flip-flop cells were traced and are known, and their ratio.

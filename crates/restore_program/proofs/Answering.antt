@@ -1,17 +1,20 @@
 -- How the parts of an answer come together.
-use Rattle.std.proofs.Common.{◌≡◌, ℕ, ◌≤◌, ◌<◌, Bool, true, false, List, [], ◌∷◌, map, length, Option, Some, None, sym, refl, subst, ap, ◌∙◌, inl, inr}
+use Rattle.std.proofs.Common.{◌≡◌, ℕ, ◌≤◌, ◌<◌, Bool, true, false, List, [], ◌∷◌, ◌++◌, map, length, get_or, Option, Some, None, sym, refl, subst, ap, ◌∙◌, inl, inr, arith}
+use Rattle.std.proofs.Math.Seq.{get_or-append_seam}
+use Rattle.std.proofs.lemmas.List.{length-append}
 use Rattle.std.specs.Prelude.{IfSome, IsNone, IsErrOf, Result, Err}
 use Rattle.sr_model.specs.Room.{WithRoom}
+use Rattle.sr_model.specs.declared.cells.Cell.{Cell}
 use Rattle.sr_model.specs.declared.cells.Lit.{Lit}
 use Rattle.sr_model.specs.declared.statements.Numbered.{Numbered}
 use Rattle.sr_model.specs.Declaration.{Declaration, declared, declarations_of, declaration_of}
 use Rattle.sr_model.specs.Netlist.{Unrolled}
-use Rattle.sr_model.specs.Closure.{LitSet, Closure, SameLits, passing, lit}
+use Rattle.sr_model.specs.Closure.{LitSet, Closure, SameLits, passing}
 use Rattle.sr_model.specs.Dump.{Known, Row, dump_has}
 use Rattle.sr_model.proofs.ClosureLaws.{monotone}
 use Rattle.sr_outside.specs.Told.{Held}
 use Rattle.sr_outside.specs.declared.whole.ReadRefusal.{ReadRefusal}
-use Rattle.sr_outside.specs.declared.whole.ReadRefusal.TheVariants as refusals
+use Rattle.sr_outside.specs.declared.whole.ReadRefusal.TheVariants as reads
 use Rattle.bench_reader.specs.declared.reader.BenchRefusal.{BenchRefusal}
 use Rattle.bench_reader.specs.declared.reader.BenchRefusal.TheVariants as bench
 use Rattle.bench_reader.specs.Grammar as grammar
@@ -19,49 +22,54 @@ use Rattle.bench_reader.specs.Refusal as bench_refusal
 use Rattle.netlist.specs.declared.checks.NetRefusal.{NetRefusal}
 use Rattle.netlist.specs.declared.checks.NetRefusal.TheVariants as net
 use Rattle.netlist.specs.Checks as checks
-use Rattle.netlist.specs.Circuit.{Circuit, IsNetlist, circuit_of, unrolled_over}
+use Rattle.netlist.specs.Circuit.{Circuit, IsNetlist, circuit_of}
 use Rattle.dump_reader.specs.declared.refusal.DumpRefusal.{DumpRefusal}
 use Rattle.dump_reader.specs.declared.refusal.DumpRefusal.TheVariants as dumps
 use Rattle.dump_reader.specs.Recording.{Recording}
-use Rattle.unroll.specs.Problem.{Unrolling, unrolled}
-use Rattle.restore_program.specs.declared.reply.Part.{Part}
-use Rattle.restore_program.specs.declared.reply.Part.TheVariants as parts
+use Rattle.unroll.specs.Problem.{Unrolling}
+use Rattle.known_planes.specs.Planes.{PlaneSet, has}
+use Rattle.report.specs.declared.refusal.Part.{Part}
+use Rattle.report.specs.declared.refusal.Part.TheVariants as parts
+use Rattle.report.specs.declared.refusal.Refusal.{Refusal}
+use Rattle.report.specs.declared.refusal.Refusal.TheVariants as refusals
+use Rattle.report.specs.declared.refusal.WordRefusal.{WordRefusal}
+use Rattle.report.specs.declared.refusal.WordRefusal.TheVariants as word_refusals
+use Rattle.report.specs.Clash.{clash_line}
+use Rattle.report.specs.InputRefusals.{too_long_line}
+use Rattle.report.specs.Refusals.{HasItem, WordIsThere, item_of, trace_twice_line, unknown_trace_line}
+use Rattle.report.specs.Table.{table_text}
 use Rattle.restore_program.specs.declared.reply.Reply.{Reply}
 use Rattle.restore_program.specs.declared.reply.Reply.TheVariants as replies
+use Rattle.restore_program.specs.declared.status.Status.{Status}
 use Rattle.restore_program.specs.declared.status.Status.TheVariants as statuses
-use Rattle.restore_program.specs.Reply.{text_of, status_of, too_long_line}
+use Rattle.restore_program.specs.declared.words.Settings.{Settings}
+use Rattle.restore_program.specs.Outcome.{IsFirstClash, IsKnown, IsTraced}
 use Rattle.restore_program.specs.Printing.{IsPrinted}
-use Rattle.restore_program.specs.Words.{IsCommand, Restores, Prints}
+use Rattle.restore_program.specs.Reply.{IsReady, text_of, status_of, refusal_status}
+use Rattle.restore_program.specs.Requests.{Request, Asks, printing}
+use Rattle.restore_program.specs.TraceRefusals.{HasListAt, IsItem, IsTraceRefusal, list_refusal}
+use Rattle.restore_program.specs.Tracing.{OnTrace, name_twice, names_in, unknown_name}
 use Rattle.restore_program.specs.declared.trace.TraceRefusal.{TraceRefusal}
 use Rattle.restore_program.specs.declared.trace.TraceRefusal.TheVariants as traces
-use Rattle.restore_program.specs.Tracing.{OnTrace, unknown_name, name_twice, names_in}
-use Rattle.restore_program.specs.TraceRefusals.{IsTraceRefusal}
-use denote.Bor.{Bor}
-use Rattle.restore_program.specs.Answer.{most_bytes, IsNetlistText, RefusedNetlist, netlist_too_long, bad_line, no_netlist, IsDumpText, IsDumpRefusal, KnownFrom, OnDump, dump_too_long, bad_dump, clash, table, IsNetlistOf, OnRefused, DumpAnswer, RestoreAnswer, PrintAnswer, SimulateAnswer, IsBadKey, Traces, Answer, usage, bad_number, simulate, restore, print, IsPlain, Replies, IsFault, IsOfWords, unread_reply, OnKnown, ReplyAnswer, IsAcceptedNetlist, IsNetlistFault, IsDumpFault, IsFaultOf, IsWordsFault, OnFault, Says}
+use Rattle.restore_program.specs.WordMeaning.{Means}
+use Rattle.restore_program.specs.Words.{IsBadNumber, IsCommand}
+use Rattle.restore_program.proofs.Gifts.{bad_has_key}
+use Rattle.restore_program.specs.Answer.{most_bytes, IsNetlistText, RefusedNetlist, netlist_too_long, bad_line, no_netlist, IsDumpText, IsDumpRefusal, OnDump, dump_too_long, bad_dump, clash, table, IsNetlistOf, OnNetlist, OnPrint, OnRefused, DumpAnswer, RequestAnswer, Answer, usage, bad_number, asked, AreRefused, IsPlain, Replies, IsFault, IsFaultRefusal, IsOfWords, IsWordsRefusal, unread_refusal, ReplyAnswer, IsAcceptedNetlist, IsNetlistFault, IsDumpFault, IsRestoreFault, IsWordsFault, OnFault, OnFaultRefusal, Says}
 
 -- ---- from what is known to a dump
 
-pub on_dump : (c : Circuit) (bytes : List ℕ) (d : Recording) (known : Lit → Bool) (reply : Reply) → IsDumpText c bytes d → SameLits (passing known) (KnownFrom c d)
-    → OnKnown c d.cycles known reply → Replies (OnDump c bytes) reply
-on_dump c bytes d known replies.Clash spells same (cell, both) plain = clash d cell spells (same.0 (lit cell false) both.0, same.0 (lit cell true) both.1)
-on_dump c bytes d known (replies.Text text) spells same (no_clash, e) plain = subst (λ t. OnDump c bytes t statuses.Done) (sym e) (table d known spells same no_clash)
-on_dump c bytes d known replies.NoMemory spells same h plain = absurd plain
-on_dump c bytes d known replies.Usage spells same h plain = absurd h
-on_dump c bytes d known (replies.Number key) spells same h plain = absurd h
-on_dump c bytes d known (replies.Trace r) spells same h plain = absurd h
-on_dump c bytes d known (replies.ManyCells product) spells same h plain = absurd h
-on_dump c bytes d known (replies.TooLong part) spells same h plain = absurd h
-on_dump c bytes d known (replies.Bench r) spells same h plain = absurd h
-on_dump c bytes d known (replies.Net r) spells same h plain = absurd h
-on_dump c bytes d known (replies.Dumped r) spells same h plain = absurd h
-on_dump c bytes d known (replies.Fault part) spells same h plain = absurd h
+abbrev over : Circuit → Recording → Unrolling
+over c d = record { circuit = c; cycles = d.cycles }
 
--- the same for a dump over the cycles of a problem
-pub on_recording : (u : Unrolling) (bytes : List ℕ) (d : Recording) (known : Lit → Bool) (reply : Reply) → d.cycles ≡ u.cycles → IsDumpText u.circuit bytes d
-    → SameLits (passing known) (Known (unrolled u) d.rows) → OnKnown u.circuit u.cycles known reply → Replies (OnDump u.circuit bytes) reply
-on_recording u bytes d known reply e spells same on =
-    on_dump u.circuit bytes d known reply spells (subst (λ n. SameLits (passing known) (Known (unrolled_over u.circuit n) d.rows)) (sym e) same)
-    (subst (λ n. OnKnown u.circuit n known reply) (sym e) on)
+-- the table of what is known
+pub table_answer : (c : Circuit) (d : Recording) (all : Bool) (planes : PlaneSet) (traced : ℕ) (bytes : List ℕ) → IsKnown (over c d) d.rows planes → IsTraced (over c d) d.rows traced → IsDumpText c bytes d
+    → OnDump c bytes all (table_text c d.cycles (has (over c d) planes) traced all) statuses.Done
+table_answer c d all planes traced bytes is counted read =
+    subst (λ n. OnDump c bytes all (table_text c d.cycles (has (over c d) planes) n all) statuses.Done) (sym counted.0) (table d (has (over c d) planes) read is.known is.no_clash)
+
+-- a contradiction
+pub clash_answer : (c : Circuit) (d : Recording) (all : Bool) (cell : Cell) (bytes : List ℕ) → IsFirstClash (over c d) d.rows cell → IsDumpText c bytes d → OnDump c bytes all (clash_line c cell) statuses.Contradiction
+clash_answer c d all cell bytes first read = clash d cell read first.1
 
 -- what is known from literals that are those of a dump
 pub known_from : (u : Unrolled) (rows : List Row) (base : Lit → Bool) (known : LitSet) → ((l : Lit) → base l ≡ dump_has rows l) → SameLits known (Closure u (passing base)) → SameLits known (Known u rows)
@@ -87,32 +95,64 @@ netlist_text bytes s c short spells is e = record {
   circuit = e ∙ ap circuit_of (sym (without_lines-of s.items));
 }
 
-pub bad_bench : (bytes : List ℕ) (r : BenchRefusal) → length bytes ≤ most_bytes → bench_refusal.IsRefusal bytes r → Replies (RefusedNetlist bytes) (replies.Bench r)
-bad_bench bytes bench.NoMemory short is = λ plain. absurd plain
-bad_bench bytes (bench.Syntax line) short is = λ _. bad_line (bench.Syntax line) short (λ e. absurd cc) is
-bad_bench bytes (bench.NameLong line) short is = λ _. bad_line (bench.NameLong line) short (λ e. absurd cc) is
-bad_bench bytes (bench.UnknownKind line) short is = λ _. bad_line (bench.UnknownKind line) short (λ e. absurd cc) is
-bad_bench bytes (bench.WrongPins line) short is = λ _. bad_line (bench.WrongPins line) short (λ e. absurd cc) is
+pub bad_bench : (words : List (List ℕ)) (bytes : List ℕ) (r : BenchRefusal) → length bytes ≤ most_bytes → bench_refusal.IsRefusal bytes r → Replies words (RefusedNetlist bytes) (replies.Refused (refusals.Bench r))
+bad_bench words bytes bench.NoMemory short is = λ plain. absurd plain
+bad_bench words bytes (bench.Syntax line) short is = λ _. bad_line (bench.Syntax line) short (λ e. absurd cc) is
+bad_bench words bytes (bench.NameLong line) short is = λ _. bad_line (bench.NameLong line) short (λ e. absurd cc) is
+bad_bench words bytes (bench.UnknownKind line) short is = λ _. bad_line (bench.UnknownKind line) short (λ e. absurd cc) is
+bad_bench words bytes (bench.WrongPins line) short is = λ _. bad_line (bench.WrongPins line) short (λ e. absurd cc) is
 
-pub bad_net : (bytes : List ℕ) (stated : List (ℕ × Declaration)) (r : NetRefusal) → length bytes ≤ most_bytes → grammar.Spells bytes stated → checks.IsRefusal stated r
-    → Replies (RefusedNetlist bytes) (replies.Net r)
-bad_net bytes stated net.NoMemory short spells is = λ plain. absurd plain
-bad_net bytes stated (net.TooManySignals line) short spells is = λ _. no_netlist stated (net.TooManySignals line) short (λ e. absurd cc) spells is
-bad_net bytes stated (net.TooManyPins line) short spells is = λ _. no_netlist stated (net.TooManyPins line) short (λ e. absurd cc) spells is
-bad_net bytes stated (net.TwoDrivers line) short spells is = λ _. no_netlist stated (net.TwoDrivers line) short (λ e. absurd cc) spells is
-bad_net bytes stated (net.NoDriver name) short spells is = λ _. no_netlist stated (net.NoDriver name) short (λ e. absurd cc) spells is
-bad_net bytes stated (net.Loop name count) short spells is = λ _. no_netlist stated (net.Loop name count) short (λ e. absurd cc) spells is
+pub bad_net : (words : List (List ℕ)) (bytes : List ℕ) (stated : List (ℕ × Declaration)) (r : NetRefusal) → length bytes ≤ most_bytes → grammar.Spells bytes stated → checks.IsRefusal stated r
+    → Replies words (RefusedNetlist bytes) (replies.Refused (refusals.Net r))
+bad_net words bytes stated net.NoMemory short spells is = λ plain. absurd plain
+bad_net words bytes stated (net.TooManySignals line) short spells is = λ _. no_netlist stated (net.TooManySignals line) short (λ e. absurd cc) spells is
+bad_net words bytes stated (net.TooManyPins line) short spells is = λ _. no_netlist stated (net.TooManyPins line) short (λ e. absurd cc) spells is
+bad_net words bytes stated (net.TwoDrivers line) short spells is = λ _. no_netlist stated (net.TwoDrivers line) short (λ e. absurd cc) spells is
+bad_net words bytes stated (net.NoDriver name) short spells is = λ _. no_netlist stated (net.NoDriver name) short (λ e. absurd cc) spells is
+bad_net words bytes stated (net.Loop name count) short spells is = λ _. no_netlist stated (net.Loop name count) short (λ e. absurd cc) spells is
 
-pub bad_dumped : (c : Circuit) (bytes : List ℕ) (r : DumpRefusal) → length bytes ≤ most_bytes → IsDumpRefusal c bytes r → Replies (OnDump c bytes) (replies.Dumped r)
-bad_dumped c bytes dumps.NoMemory short is = λ plain. absurd plain
-bad_dumped c bytes (dumps.Head line) short is = λ _. bad_dump (dumps.Head line) short (λ e. absurd cc) is
-bad_dumped c bytes (dumps.Cycles line) short is = λ _. bad_dump (dumps.Cycles line) short (λ e. absurd cc) is
-bad_dumped c bytes (dumps.TooManyCells line product) short is = λ _. bad_dump (dumps.TooManyCells line product) short (λ e. absurd cc) is
-bad_dumped c bytes (dumps.RowSyntax line) short is = λ _. bad_dump (dumps.RowSyntax line) short (λ e. absurd cc) is
-bad_dumped c bytes (dumps.UnknownSignal line) short is = λ _. bad_dump (dumps.UnknownSignal line) short (λ e. absurd cc) is
-bad_dumped c bytes (dumps.TwiceNamed line) short is = λ _. bad_dump (dumps.TwiceNamed line) short (λ e. absurd cc) is
-bad_dumped c bytes (dumps.RowLength line) short is = λ _. bad_dump (dumps.RowLength line) short (λ e. absurd cc) is
-bad_dumped c bytes (dumps.BadBit line) short is = λ _. bad_dump (dumps.BadBit line) short (λ e. absurd cc) is
+pub bad_dumped : (words : List (List ℕ)) (c : Circuit) (bytes : List ℕ) (all : Bool) (r : DumpRefusal) → length bytes ≤ most_bytes → IsDumpRefusal c bytes r → Replies words (OnDump c bytes all) (replies.Refused (refusals.Dumped r))
+bad_dumped words c bytes all dumps.NoMemory short is = λ plain. absurd plain
+bad_dumped words c bytes all (dumps.Head line) short is = λ _. bad_dump (dumps.Head line) short (λ e. absurd cc) is
+bad_dumped words c bytes all (dumps.Cycles line) short is = λ _. bad_dump (dumps.Cycles line) short (λ e. absurd cc) is
+bad_dumped words c bytes all (dumps.TooManyCells line product) short is = λ _. bad_dump (dumps.TooManyCells line product) short (λ e. absurd cc) is
+bad_dumped words c bytes all (dumps.RowSyntax line) short is = λ _. bad_dump (dumps.RowSyntax line) short (λ e. absurd cc) is
+bad_dumped words c bytes all (dumps.UnknownSignal line) short is = λ _. bad_dump (dumps.UnknownSignal line) short (λ e. absurd cc) is
+bad_dumped words c bytes all (dumps.TwiceNamed line) short is = λ _. bad_dump (dumps.TwiceNamed line) short (λ e. absurd cc) is
+bad_dumped words c bytes all (dumps.RowLength line) short is = λ _. bad_dump (dumps.RowLength line) short (λ e. absurd cc) is
+bad_dumped words c bytes all (dumps.BadBit line) short is = λ _. bad_dump (dumps.BadBit line) short (λ e. absurd cc) is
+
+-- ---- a list of names that is refused
+
+-- the name of an item of the list that the word at a place gives
+item_name : (words : List (List ℕ)) (place : ℕ) (list : List ℕ) (c : Circuit) (name : List ℕ) (item : ℕ) → HasListAt words place list → IsItem c (names_in list) name item → item_of words place item ≡ name
+item_name words place list c name item there is =
+    ap (λ names. get_or names item []) (there.names ∙ is.next.whole) ∙ ap (λ n. get_or (is.before ++ name ∷ is.next.after) n []) is.place ∙ get_or-append_seam is.before name is.next.after []
+
+-- it is among the names
+item_there : (words : List (List ℕ)) (place : ℕ) (list : List ℕ) (c : Circuit) (name : List ℕ) (item : ℕ) → HasListAt words place list → IsItem c (names_in list) name item → HasItem words place item
+item_there words place list c name item there is = record {
+  key = there.key;
+  there = omega (arith, is.place, ap length (there.names ∙ is.next.whole), length-append is.before (name ∷ is.next.after));
+}
+
+pub trace_refused : (words : List (List ℕ)) (place : ℕ) (c : Circuit) (cycles seed : ℕ) (list : List ℕ) (r : TraceRefusal) → HasListAt words place list → IsTraceRefusal c (names_in list) r
+    → Replies words (OnTrace c cycles seed list) (replies.Refused (list_refusal r place))
+trace_refused words place c cycles seed list (traces.Unknown item) there (name, is, unknown) plain =
+    subst (λ n. OnTrace c cycles seed list (unknown_trace_line n) statuses.Words) (sym (item_name words place list c name item there is)) (unknown_name name (is.before, is.next, unknown))
+trace_refused words place c cycles seed list (traces.Twice item) there (name, is, twice) plain =
+    subst (λ n. OnTrace c cycles seed list (trace_twice_line n) statuses.Words) (sym (item_name words place list c name item there is)) (name_twice name (is.before, is.next, twice))
+trace_refused words place c cycles seed list traces.NoMemory there is plain = absurd plain
+
+pub trace_ready : (words : List (List ℕ)) (place : ℕ) (c : Circuit) (list : List ℕ) (r : TraceRefusal) → HasListAt words place list → IsTraceRefusal c (names_in list) r → IsReady words (replies.Refused (list_refusal r place))
+trace_ready words place c list (traces.Unknown item) there (name, is, unknown) = item_there words place list c name item there is
+trace_ready words place c list (traces.Twice item) there (name, is, twice) = item_there words place list c name item there is
+trace_ready words place c list traces.NoMemory there is = tt
+
+pub trace_no_fault : (r : TraceRefusal) (place : ℕ) → ¬ IsFault (replies.Refused (list_refusal r place))
+trace_no_fault (traces.Unknown item) place fault = fault
+trace_no_fault (traces.Twice item) place fault = fault
+trace_no_fault traces.NoMemory place fault = fault
 
 -- ---- from the bytes that are held
 
@@ -120,174 +160,180 @@ abbrev whole : ReadRefusal → Result (WithRoom ℕ) ReadRefusal
 whole refusal = Err refusal
 
 -- what is written of a dump that was not read
-pub unread_dump : (told : Option Held) (c : Circuit) (name : List ℕ) (refusal : ReadRefusal)
-    → (IsErrOf (whole refusal) refusals.TooLong → IfSome told (λ held. IfSome (held name) (λ bytes. most_bytes < length bytes)))
-    → IfSome told (λ held. IsNone (held name) → IsErrOf (whole refusal) refusals.Fault)
-    → IfSome told (λ held. Replies (DumpAnswer held c name) (unread_reply parts.Dump refusal))
-unread_dump None c name refusal long missing = tt
-unread_dump (Some held) c name refusals.Fault long missing = λ plain. absurd plain
-unread_dump (Some held) c name refusals.NoMemory long missing = λ plain. absurd plain
-unread_dump (Some held) c name refusals.TooLong long missing = λ _. at (held name) refl where
-  at : (there : Option (List ℕ)) → held name ≡ there → DumpAnswer held c name (too_long_line parts.Dump) statuses.Dump
-  at None e = let no : whole refusals.TooLong ≡ whole refusals.Fault = missing (subst IsNone (sym e) refl) in absurd cc
+pub unread_dump : (words : List (List ℕ)) (told : Option Held) (c : Circuit) (name : List ℕ) (all : Bool) (refusal : ReadRefusal)
+    → (IsErrOf (whole refusal) reads.TooLong → IfSome told (λ held. IfSome (held name) (λ bytes. most_bytes < length bytes)))
+    → IfSome told (λ held. IsNone (held name) → IsErrOf (whole refusal) reads.Fault)
+    → IfSome told (λ held. Replies words (DumpAnswer held c name all) (replies.Refused (unread_refusal parts.Dump refusal)))
+unread_dump words None c name all refusal long missing = tt
+unread_dump words (Some held) c name all reads.Fault long missing = λ plain. absurd plain
+unread_dump words (Some held) c name all reads.NoMemory long missing = λ plain. absurd plain
+unread_dump words (Some held) c name all reads.TooLong long missing = λ _. at (held name) refl where
+  at : (there : Option (List ℕ)) → held name ≡ there → DumpAnswer held c name all (too_long_line parts.Dump) statuses.Dump
+  at None e = let no : whole reads.TooLong ≡ whole reads.Fault = missing (subst IsNone (sym e) refl) in absurd cc
   at (Some bytes) e = (bytes, e, dump_too_long (subst (λ o. IfSome o (λ b. most_bytes < length b)) e (long refl)))
 
-pub unread_netlist : (told : Option Held) (name : List ℕ) (refusal : ReadRefusal)
-    → (IsErrOf (whole refusal) refusals.TooLong → IfSome told (λ held. IfSome (held name) (λ bytes. most_bytes < length bytes)))
-    → IfSome told (λ held. IsNone (held name) → IsErrOf (whole refusal) refusals.Fault)
-    → IfSome told (λ held. Replies (OnRefused held name) (unread_reply parts.Netlist refusal))
-unread_netlist None name refusal long missing = tt
-unread_netlist (Some held) name refusals.Fault long missing = λ plain. absurd plain
-unread_netlist (Some held) name refusals.NoMemory long missing = λ plain. absurd plain
-unread_netlist (Some held) name refusals.TooLong long missing = λ _. at (held name) refl where
+-- what is written of a netlist that was not read
+pub unread_netlist : (words : List (List ℕ)) (told : Option Held) (name : List ℕ) (refusal : ReadRefusal)
+    → (IsErrOf (whole refusal) reads.TooLong → IfSome told (λ held. IfSome (held name) (λ bytes. most_bytes < length bytes)))
+    → IfSome told (λ held. IsNone (held name) → IsErrOf (whole refusal) reads.Fault)
+    → IfSome told (λ held. Replies words (OnRefused held name) (replies.Refused (unread_refusal parts.Netlist refusal)))
+unread_netlist words None name refusal long missing = tt
+unread_netlist words (Some held) name reads.Fault long missing = λ plain. absurd plain
+unread_netlist words (Some held) name reads.NoMemory long missing = λ plain. absurd plain
+unread_netlist words (Some held) name reads.TooLong long missing = λ _. at (held name) refl where
   at : (there : Option (List ℕ)) → held name ≡ there → OnRefused held name (too_long_line parts.Netlist) statuses.Netlist
-  at None e = let no : whole refusals.TooLong ≡ whole refusals.Fault = missing (subst IsNone (sym e) refl) in absurd cc
+  at None e = let no : whole reads.TooLong ≡ whole reads.Fault = missing (subst IsNone (sym e) refl) in absurd cc
   at (Some bytes) e = (bytes, e, netlist_too_long (subst (λ o. IfSome o (λ b. most_bytes < length b)) e (long refl)))
+
+-- such a reply is ready
+pub unread_ready : (words : List (List ℕ)) (part : Part) (refusal : ReadRefusal) → IsReady words (replies.Refused (unread_refusal part refusal))
+unread_ready words part reads.Fault = tt
+unread_ready words part reads.TooLong = tt
+unread_ready words part reads.NoMemory = tt
+
+-- and not about the words
+pub unread_input : (part : Part) (refusal : ReadRefusal) → ¬ IsOfWords (replies.Refused (unread_refusal part refusal))
+unread_input part reads.Fault of = of
+unread_input part reads.TooLong of = of
+unread_input part reads.NoMemory of = of
 
 pub held_netlist : (told : Option Held) (name bytes : List ℕ) (c : Circuit) → IfSome told (λ held. held name ≡ Some bytes) → IsNetlistText bytes c → IfSome told (λ held. IsNetlistOf held name c)
 held_netlist None name bytes c is text = tt
 held_netlist (Some held) name bytes c is text = (bytes, is, text)
 
-pub held_refused : (told : Option Held) (name bytes : List ℕ) (reply : Reply) → IfSome told (λ held. held name ≡ Some bytes) → Replies (RefusedNetlist bytes) reply
-    → IfSome told (λ held. Replies (OnRefused held name) reply)
-held_refused None name bytes reply is refused = tt
-held_refused (Some held) name bytes reply is refused = λ plain. (bytes, is, refused plain)
+pub held_refused : (words : List (List ℕ)) (told : Option Held) (name bytes : List ℕ) (reply : Reply) → IfSome told (λ held. held name ≡ Some bytes) → Replies words (RefusedNetlist bytes) reply
+    → IfSome told (λ held. Replies words (OnRefused held name) reply)
+held_refused words None name bytes reply is refused = tt
+held_refused words (Some held) name bytes reply is refused = λ plain. (bytes, is, refused plain)
 
-pub held_dump : (told : Option Held) (name bytes : List ℕ) (c : Circuit) (reply : Reply) → IfSome told (λ held. held name ≡ Some bytes) → Replies (OnDump c bytes) reply
-    → IfSome told (λ held. Replies (DumpAnswer held c name) reply)
-held_dump None name bytes c reply is answer = tt
-held_dump (Some held) name bytes c reply is answer = λ plain. (bytes, is, answer plain)
+pub held_dump : (words : List (List ℕ)) (told : Option Held) (name bytes : List ℕ) (c : Circuit) (all : Bool) (reply : Reply) → IfSome told (λ held. held name ≡ Some bytes) → Replies words (OnDump c bytes all) reply
+    → IfSome told (λ held. Replies words (DumpAnswer held c name all) reply)
+held_dump words None name bytes c all reply is answer = tt
+held_dump words (Some held) name bytes c all reply is answer = λ plain. (bytes, is, answer plain)
 
--- ---- commands
+-- ---- behind a netlist
 
-pub restore_read : (told : Option Held) (netlist dump : List ℕ) (c : Circuit) (reply : Reply) → IfSome told (λ held. IsNetlistOf held netlist c) → IfSome told (λ held. Replies (DumpAnswer held c dump) reply)
-    → IfSome told (λ held. Replies (RestoreAnswer held netlist dump) reply)
-restore_read None netlist dump c reply is answer = tt
-restore_read (Some held) netlist dump c reply is answer = λ plain. inr (c, is, answer plain)
+module _ (words : List (List ℕ)) (netlist : List ℕ) (P : Held → Circuit → List ℕ → Status → Type 0) (reply : Reply) where
+  pub netlist_refused : (told : Option Held) → IfSome told (λ held. Replies words (OnRefused held netlist) reply) → IfSome told (λ held. Replies words (OnNetlist held netlist (P held)) reply)
+  netlist_refused None refused = tt
+  netlist_refused (Some held) refused = λ plain. inl (refused plain)
 
-pub restore_refused : (told : Option Held) (netlist dump : List ℕ) (reply : Reply) → IfSome told (λ held. Replies (OnRefused held netlist) reply) → IfSome told (λ held. Replies (RestoreAnswer held netlist dump) reply)
-restore_refused None netlist dump reply refused = tt
-restore_refused (Some held) netlist dump reply refused = λ plain. inl (refused plain)
+  pub netlist_read : (told : Option Held) (c : Circuit) → IfSome told (λ held. IsNetlistOf held netlist c) → IfSome told (λ held. Replies words (P held c) reply) → IfSome told (λ held. Replies words (OnNetlist held netlist (P held)) reply)
+  netlist_read None c is answer = tt
+  netlist_read (Some held) c is answer = λ plain. inr (c, is, answer plain)
 
-pub print_refused : (told : Option Held) (netlist : List ℕ) (reply : Reply) → IfSome told (λ held. Replies (OnRefused held netlist) reply) → IfSome told (λ held. Replies (PrintAnswer held netlist) reply)
-print_refused None netlist reply refused = tt
-print_refused (Some held) netlist reply refused = λ plain. inl (refused plain)
+-- what is so whatever is told
+pub told_or_not : (told : Option Held) (P : Held → Type 0) → ((held : Held) → P held) → IfSome told P
+told_or_not None P each = tt
+told_or_not (Some held) P each = each held
 
-printed_now : (held : Held) (netlist : List ℕ) (c : Circuit) (reply : Reply) → IsNetlistOf held netlist c → IsPrinted c reply → Replies (PrintAnswer held netlist) reply
-printed_now held netlist c (replies.Text text) is printed = λ _. inr (c, is, printed, refl)
-printed_now held netlist c replies.NoMemory is printed = λ plain. absurd plain
-printed_now held netlist c replies.Usage is printed = absurd printed
-printed_now held netlist c (replies.Number key) is printed = absurd printed
-printed_now held netlist c (replies.Trace r) is printed = absurd printed
-printed_now held netlist c (replies.ManyCells product) is printed = absurd printed
-printed_now held netlist c (replies.TooLong part) is printed = absurd printed
-printed_now held netlist c (replies.Bench r) is printed = absurd printed
-printed_now held netlist c (replies.Net r) is printed = absurd printed
-printed_now held netlist c (replies.Dumped r) is printed = absurd printed
-printed_now held netlist c replies.Clash is printed = absurd printed
-printed_now held netlist c (replies.Fault part) is printed = absurd printed
+-- a netlist's text
+pub printed_now : (words : List (List ℕ)) (c : Circuit) (reply : Reply) → IsPrinted c reply → Replies words (OnPrint c) reply
+printed_now words c (replies.Text text) printed = λ _. (printed, refl)
+printed_now words c (replies.Refused refusals.NoMemory) printed = λ plain. absurd plain
+printed_now words c (replies.Known t) printed = absurd printed
+printed_now words c (replies.Clash n cell) printed = absurd printed
+printed_now words c (replies.Refused (refusals.Bench r)) printed = absurd printed
+printed_now words c (replies.Refused (refusals.Net r)) printed = absurd printed
+printed_now words c (replies.Refused (refusals.Dumped r)) printed = absurd printed
+printed_now words c (replies.Refused (refusals.Words r)) printed = absurd printed
+printed_now words c (replies.Refused (refusals.TooLong part)) printed = absurd printed
+printed_now words c (replies.Refused (refusals.Fault part)) printed = absurd printed
+printed_now words c (replies.Refused (refusals.CellsByWords product)) printed = absurd printed
+printed_now words c (replies.Refused (refusals.TraceUnknown place item)) printed = absurd printed
+printed_now words c (replies.Refused (refusals.TraceTwice place item)) printed = absurd printed
 
-pub print_read : (told : Option Held) (netlist : List ℕ) (c : Circuit) (reply : Reply) → IfSome told (λ held. IsNetlistOf held netlist c) → IsPrinted c reply → IfSome told (λ held. Replies (PrintAnswer held netlist) reply)
-print_read None netlist c reply is printed = tt
-print_read (Some held) netlist c reply is printed = printed_now held netlist c reply is printed
-
--- such a reply is no fault and not about the words
-pub printed-plain : (c : Circuit) (reply : Reply) → IsPrinted c reply → (IsFault reply → ⊥) × (IsOfWords reply → ⊥)
-printed-plain c (replies.Text text) h = (λ f. f, λ w. w)
-printed-plain c replies.NoMemory h = (λ f. f, λ w. w)
-printed-plain c replies.Usage h = absurd h
-printed-plain c (replies.Number key) h = absurd h
-printed-plain c (replies.Trace r) h = absurd h
-printed-plain c (replies.ManyCells product) h = absurd h
-printed-plain c (replies.TooLong part) h = absurd h
-printed-plain c (replies.Bench r) h = absurd h
-printed-plain c (replies.Net r) h = absurd h
-printed-plain c (replies.Dumped r) h = absurd h
-printed-plain c replies.Clash h = absurd h
-printed-plain c (replies.Fault part) h = absurd h
-
-pub simulate_refused : (told : Option Held) (netlist : List ℕ) (cycles seed : ℕ) (list : List ℕ) (reply : Reply) → IfSome told (λ held. Replies (OnRefused held netlist) reply)
-    → IfSome told (λ held. Replies (SimulateAnswer held netlist cycles seed list) reply)
-simulate_refused None netlist cycles seed list reply refused = tt
-simulate_refused (Some held) netlist cycles seed list reply refused = λ plain. inl (refused plain)
-
-pub simulate_read : (told : Option Held) (netlist : List ℕ) (cycles seed : ℕ) (list : List ℕ) (c : Circuit) (reply : Reply) → IfSome told (λ held. IsNetlistOf held netlist c)
-    → Replies (OnTrace c cycles seed list) reply → IfSome told (λ held. Replies (SimulateAnswer held netlist cycles seed list) reply)
-simulate_read None netlist cycles seed list c reply is answer = tt
-simulate_read (Some held) netlist cycles seed list c reply is answer = λ plain. inr (c, is, answer plain)
-
--- a list of names that is refused
-pub trace_refused : (c : Circuit) (cycles seed : ℕ) (list : List ℕ) (r : TraceRefusal) → IsTraceRefusal c (names_in list) r → Replies (OnTrace c cycles seed list) (replies.Trace r)
-trace_refused c cycles seed list (traces.Unknown name) is = λ _. unknown_name name.items is
-trace_refused c cycles seed list (traces.Twice name) is = λ _. name_twice name.items is
-trace_refused c cycles seed list traces.NoMemory is = λ plain. absurd plain
+-- such a reply is no fault, not about the words, and ready
+pub printed_plain : (c : Circuit) (reply : Reply) → IsPrinted c reply → (IsFault reply → ⊥) × (IsOfWords reply → ⊥) × ((words : List (List ℕ)) → IsReady words reply)
+printed_plain c (replies.Text text) h = (λ f. f, λ w. w, λ words. tt)
+printed_plain c (replies.Refused refusals.NoMemory) h = (λ f. f, λ w. w, λ words. tt)
+printed_plain c (replies.Known t) h = absurd h
+printed_plain c (replies.Clash n cell) h = absurd h
+printed_plain c (replies.Refused (refusals.Bench r)) h = absurd h
+printed_plain c (replies.Refused (refusals.Net r)) h = absurd h
+printed_plain c (replies.Refused (refusals.Dumped r)) h = absurd h
+printed_plain c (replies.Refused (refusals.Words r)) h = absurd h
+printed_plain c (replies.Refused (refusals.TooLong part)) h = absurd h
+printed_plain c (replies.Refused (refusals.Fault part)) h = absurd h
+printed_plain c (replies.Refused (refusals.CellsByWords product)) h = absurd h
+printed_plain c (replies.Refused (refusals.TraceUnknown place item)) h = absurd h
+printed_plain c (replies.Refused (refusals.TraceTwice place item)) h = absurd h
 
 -- ---- what the words ask for is answered
 
-pub answers_restore : (told : Option Held) (words : List (List ℕ)) (netlist dump : List ℕ) (reply : Reply) → Restores words netlist dump → IfSome told (λ held. Replies (RestoreAnswer held netlist dump) reply)
-    → ReplyAnswer words told reply
-answers_restore None words netlist dump reply asked answer = tt
-answers_restore (Some held) words netlist dump reply asked answer = λ plain. restore netlist dump (text_of reply) (status_of reply) asked (answer plain)
+pub answers_asked : (told : Option Held) (words : List (List ℕ)) (request : Request) (reply : Reply) → Asks words request → IfSome told (λ held. Replies words (RequestAnswer held request) reply) → ReplyAnswer words told reply
+answers_asked None words request reply asks answer = tt
+answers_asked (Some held) words request reply asks answer = λ plain. asked request (text_of words reply) (status_of reply) asks (answer plain)
 
-pub answers_print : (told : Option Held) (words : List (List ℕ)) (netlist : List ℕ) (reply : Reply) → Prints words netlist → IfSome told (λ held. Replies (PrintAnswer held netlist) reply) → ReplyAnswer words told reply
-answers_print None words netlist reply asked answer = tt
-answers_print (Some held) words netlist reply asked answer = λ plain. print netlist (text_of reply) (status_of reply) asked (answer plain)
+-- words that are refused
+pub refused_as : (words : List (List ℕ)) (r : WordRefusal) (result : Result Settings WordRefusal) → result ≡ Err r → (result ≡ Err word_refusals.Usage → ¬ IsCommand words)
+    → ((place : ℕ) → result ≡ Err (word_refusals.Number place) → IsBadNumber words place) → Means words (Err r)
+refused_as words word_refusals.Usage result is no_shape bad = no_shape is
+refused_as words (word_refusals.Number place) result is no_shape bad = bad place is
 
-pub answers_simulate : (told : Option Held) (words : List (List ℕ)) (netlist list : List ℕ) (cycles seed : ℕ) (reply : Reply) → Traces words netlist cycles seed list
-    → IfSome told (λ held. Replies (SimulateAnswer held netlist cycles seed list) reply) → ReplyAnswer words told reply
-answers_simulate None words netlist list cycles seed reply asked answer = tt
-answers_simulate (Some held) words netlist list cycles seed reply asked answer = λ plain. simulate netlist list cycles seed (text_of reply) (status_of reply) asked (answer plain)
+pub answers_refused : (told : Option Held) (words : List (List ℕ)) (r : WordRefusal) → Means words (Err r) → ReplyAnswer words told (replies.Refused (refusals.Words r))
+answers_refused None words r means = tt
+answers_refused (Some held) words word_refusals.Usage means = λ _. usage means
+answers_refused (Some held) words (word_refusals.Number place) means = λ _. bad_number place means
 
-pub answers_bad_number : (told : Option Held) (words : List (List ℕ)) (key : Bor (List ℕ)) → IsBadKey words key.now → ReplyAnswer words told (replies.Number key)
-answers_bad_number None words key bad = tt
-answers_bad_number (Some held) words key bad = λ _. bad_number key.now bad
+pub refused_ready : (words : List (List ℕ)) (r : WordRefusal) → Means words (Err r) → WordIsThere words r
+refused_ready words word_refusals.Usage means = tt
+refused_ready words (word_refusals.Number place) means = bad_has_key words place means
 
-pub answers_refused : (told : Option Held) (words : List (List ℕ)) → ¬ IsCommand words → ReplyAnswer words told replies.Usage
-answers_refused None words other = tt
-answers_refused (Some held) words other = λ _. usage other
+pub words_refused : (words : List (List ℕ)) (r : WordRefusal) → Means words (Err r) → AreRefused words
+words_refused words word_refusals.Usage means = inl means
+words_refused words (word_refusals.Number place) means = inr (place, means)
 
 -- ---- which input was not read
 
+no_fault_refusal : (P : Part → Type 0) (r : Refusal) → (IsFaultRefusal r → ⊥) → OnFaultRefusal P r
+no_fault_refusal P (refusals.Bench r) none = tt
+no_fault_refusal P (refusals.Net r) none = tt
+no_fault_refusal P (refusals.Dumped r) none = tt
+no_fault_refusal P (refusals.Words r) none = tt
+no_fault_refusal P (refusals.TooLong part) none = tt
+no_fault_refusal P (refusals.Fault part) none = absurd (none tt)
+no_fault_refusal P (refusals.CellsByWords product) none = tt
+no_fault_refusal P (refusals.TraceUnknown place item) none = tt
+no_fault_refusal P (refusals.TraceTwice place item) none = tt
+no_fault_refusal P refusals.NoMemory none = tt
+
 pub no_faults : (P : Part → Type 0) (reply : Reply) → (IsFault reply → ⊥) → OnFault P reply
-no_faults P (replies.Fault part) none = absurd (none tt)
-no_faults P replies.Usage none = tt
-no_faults P (replies.Number key) none = tt
-no_faults P (replies.Trace r) none = tt
-no_faults P (replies.ManyCells product) none = tt
-no_faults P (replies.TooLong part) none = tt
-no_faults P (replies.Bench r) none = tt
-no_faults P (replies.Net r) none = tt
-no_faults P (replies.Dumped r) none = tt
-no_faults P replies.Clash none = tt
-no_faults P replies.NoMemory none = tt
+no_faults P (replies.Refused r) none = no_fault_refusal P r none
+no_faults P (replies.Known t) none = tt
+no_faults P (replies.Clash n cell) none = tt
 no_faults P (replies.Text text) none = tt
 
+fault_refusal_also : (P Q : Part → Type 0) (r : Refusal) → ((part : Part) → P part → Q part) → OnFaultRefusal P r → OnFaultRefusal Q r
+fault_refusal_also P Q (refusals.Bench r) also h = tt
+fault_refusal_also P Q (refusals.Net r) also h = tt
+fault_refusal_also P Q (refusals.Dumped r) also h = tt
+fault_refusal_also P Q (refusals.Words r) also h = tt
+fault_refusal_also P Q (refusals.TooLong part) also h = tt
+fault_refusal_also P Q (refusals.Fault part) also h = also part h
+fault_refusal_also P Q (refusals.CellsByWords product) also h = tt
+fault_refusal_also P Q (refusals.TraceUnknown place item) also h = tt
+fault_refusal_also P Q (refusals.TraceTwice place item) also h = tt
+fault_refusal_also P Q refusals.NoMemory also h = tt
+
 pub faults_also : (P Q : Part → Type 0) (reply : Reply) → ((part : Part) → P part → Q part) → OnFault P reply → OnFault Q reply
-faults_also P Q (replies.Fault part) also h = also part h
-faults_also P Q replies.Usage also h = tt
-faults_also P Q (replies.Number key) also h = tt
-faults_also P Q (replies.Trace r) also h = tt
-faults_also P Q (replies.ManyCells product) also h = tt
-faults_also P Q (replies.TooLong part) also h = tt
-faults_also P Q (replies.Bench r) also h = tt
-faults_also P Q (replies.Net r) also h = tt
-faults_also P Q (replies.Dumped r) also h = tt
-faults_also P Q replies.Clash also h = tt
-faults_also P Q replies.NoMemory also h = tt
+faults_also P Q (replies.Refused r) also h = fault_refusal_also P Q r also h
+faults_also P Q (replies.Known t) also h = tt
+faults_also P Q (replies.Clash n cell) also h = tt
 faults_also P Q (replies.Text text) also h = tt
 
-pub unread_faults : (P : Part → Type 0) (part : Part) (refusal : ReadRefusal) → (IsErrOf (whole refusal) refusals.Fault → P part) → OnFault P (unread_reply part refusal)
-unread_faults P part refusals.Fault h = h refl
-unread_faults P part refusals.TooLong h = tt
-unread_faults P part refusals.NoMemory h = tt
+pub unread_faults : (P : Part → Type 0) (part : Part) (refusal : ReadRefusal) → (IsErrOf (whole refusal) reads.Fault → P part) → OnFaultRefusal P (unread_refusal part refusal)
+unread_faults P part reads.Fault h = h refl
+unread_faults P part reads.TooLong h = tt
+unread_faults P part reads.NoMemory h = tt
 
-pub netlist_fault_of : (told : Option Held) (shaky : Option (List ℕ → Bool)) (netlist dump : List ℕ) (part : Part) → IsNetlistFault told shaky netlist part → IsFaultOf told shaky netlist dump part
+pub netlist_fault_of : (told : Option Held) (shaky : Option (List ℕ → Bool)) (netlist dump : List ℕ) (part : Part) → IsNetlistFault told shaky netlist part → IsRestoreFault told shaky netlist dump part
 netlist_fault_of told shaky netlist dump parts.Netlist h = h
 netlist_fault_of told shaky netlist dump parts.Dump h = absurd h
 
 -- a fault of the dump behind an accepted netlist
 pub dump_fault_of : (told : Option Held) (shaky : Option (List ℕ → Bool)) (netlist dump : List ℕ) (c : Circuit) → IfSome told (λ held. IsNetlistOf held netlist c)
-    → (part : Part) → IsDumpFault told shaky dump part → IsFaultOf told shaky netlist dump part
+    → (part : Part) → IsDumpFault told shaky dump part → IsRestoreFault told shaky netlist dump part
 dump_fault_of told shaky netlist dump c is parts.Netlist h = absurd h
 dump_fault_of told shaky netlist dump c is parts.Dump h = (h, accepted told is) where
   accepted : (t : Option Held) → IfSome t (λ held. IsNetlistOf held netlist c) → IfSome t (IsAcceptedNetlist netlist)
@@ -296,41 +342,44 @@ dump_fault_of told shaky netlist dump c is parts.Dump h = (h, accepted told is) 
 
 -- ---- what a reply's text and status say
 
-plainly : (words : List (List ℕ)) (told : Option Held) (reply : Reply) → ReplyAnswer words told reply → IsPlain (status_of reply) → IfSome told (λ held. Answer words held (text_of reply) (status_of reply))
+plainly : (words : List (List ℕ)) (told : Option Held) (reply : Reply) → ReplyAnswer words told reply → IsPlain (status_of reply) → IfSome told (λ held. Answer words held (text_of words reply) (status_of reply))
 plainly words None reply answer plain = tt
 plainly words (Some held) reply answer plain = answer plain
 
+says_refused : (words : List (List ℕ)) (told : Option Held) (shaky : Option (List ℕ → Bool)) (r : Refusal) → ReplyAnswer words told (replies.Refused r) → OnFaultRefusal (IsWordsFault words told shaky) r
+    → Says words told shaky (text_of words (replies.Refused r)) (refusal_status r)
+says_refused words told shaky (refusals.Fault part) answer fault = (part, refl, fault)
+says_refused words told shaky refusals.NoMemory answer fault = refl
+says_refused words told shaky (refusals.Words r) answer fault = plainly words told (replies.Refused (refusals.Words r)) answer tt
+says_refused words told shaky (refusals.CellsByWords product) answer fault = plainly words told (replies.Refused (refusals.CellsByWords product)) answer tt
+says_refused words told shaky (refusals.TraceUnknown place item) answer fault = plainly words told (replies.Refused (refusals.TraceUnknown place item)) answer tt
+says_refused words told shaky (refusals.TraceTwice place item) answer fault = plainly words told (replies.Refused (refusals.TraceTwice place item)) answer tt
+says_refused words told shaky (refusals.TooLong parts.Netlist) answer fault = plainly words told (replies.Refused (refusals.TooLong parts.Netlist)) answer tt
+says_refused words told shaky (refusals.TooLong parts.Dump) answer fault = plainly words told (replies.Refused (refusals.TooLong parts.Dump)) answer tt
+says_refused words told shaky (refusals.Bench bench.NoMemory) answer fault = refl
+says_refused words told shaky (refusals.Bench (bench.Syntax line)) answer fault = plainly words told (replies.Refused (refusals.Bench (bench.Syntax line))) answer tt
+says_refused words told shaky (refusals.Bench (bench.NameLong line)) answer fault = plainly words told (replies.Refused (refusals.Bench (bench.NameLong line))) answer tt
+says_refused words told shaky (refusals.Bench (bench.UnknownKind line)) answer fault = plainly words told (replies.Refused (refusals.Bench (bench.UnknownKind line))) answer tt
+says_refused words told shaky (refusals.Bench (bench.WrongPins line)) answer fault = plainly words told (replies.Refused (refusals.Bench (bench.WrongPins line))) answer tt
+says_refused words told shaky (refusals.Net net.NoMemory) answer fault = refl
+says_refused words told shaky (refusals.Net (net.TooManySignals line)) answer fault = plainly words told (replies.Refused (refusals.Net (net.TooManySignals line))) answer tt
+says_refused words told shaky (refusals.Net (net.TooManyPins line)) answer fault = plainly words told (replies.Refused (refusals.Net (net.TooManyPins line))) answer tt
+says_refused words told shaky (refusals.Net (net.TwoDrivers line)) answer fault = plainly words told (replies.Refused (refusals.Net (net.TwoDrivers line))) answer tt
+says_refused words told shaky (refusals.Net (net.NoDriver name)) answer fault = plainly words told (replies.Refused (refusals.Net (net.NoDriver name))) answer tt
+says_refused words told shaky (refusals.Net (net.Loop name count)) answer fault = plainly words told (replies.Refused (refusals.Net (net.Loop name count))) answer tt
+says_refused words told shaky (refusals.Dumped dumps.NoMemory) answer fault = refl
+says_refused words told shaky (refusals.Dumped (dumps.Head line)) answer fault = plainly words told (replies.Refused (refusals.Dumped (dumps.Head line))) answer tt
+says_refused words told shaky (refusals.Dumped (dumps.Cycles line)) answer fault = plainly words told (replies.Refused (refusals.Dumped (dumps.Cycles line))) answer tt
+says_refused words told shaky (refusals.Dumped (dumps.TooManyCells line product)) answer fault = plainly words told (replies.Refused (refusals.Dumped (dumps.TooManyCells line product))) answer tt
+says_refused words told shaky (refusals.Dumped (dumps.RowSyntax line)) answer fault = plainly words told (replies.Refused (refusals.Dumped (dumps.RowSyntax line))) answer tt
+says_refused words told shaky (refusals.Dumped (dumps.UnknownSignal line)) answer fault = plainly words told (replies.Refused (refusals.Dumped (dumps.UnknownSignal line))) answer tt
+says_refused words told shaky (refusals.Dumped (dumps.TwiceNamed line)) answer fault = plainly words told (replies.Refused (refusals.Dumped (dumps.TwiceNamed line))) answer tt
+says_refused words told shaky (refusals.Dumped (dumps.RowLength line)) answer fault = plainly words told (replies.Refused (refusals.Dumped (dumps.RowLength line))) answer tt
+says_refused words told shaky (refusals.Dumped (dumps.BadBit line)) answer fault = plainly words told (replies.Refused (refusals.Dumped (dumps.BadBit line))) answer tt
+
 pub says : (words : List (List ℕ)) (told : Option Held) (shaky : Option (List ℕ → Bool)) (reply : Reply) → ReplyAnswer words told reply → OnFault (IsWordsFault words told shaky) reply
-    → Says words told shaky (text_of reply) (status_of reply)
-says words told shaky (replies.Fault part) answer fault = (part, refl, fault)
-says words told shaky replies.NoMemory answer fault = refl
-says words told shaky replies.Usage answer fault = plainly words told replies.Usage answer tt
-says words told shaky (replies.Number key) answer fault = plainly words told (replies.Number key) answer tt
-says words told shaky (replies.Trace traces.NoMemory) answer fault = refl
-says words told shaky (replies.Trace (traces.Unknown name)) answer fault = plainly words told (replies.Trace (traces.Unknown name)) answer tt
-says words told shaky (replies.Trace (traces.Twice name)) answer fault = plainly words told (replies.Trace (traces.Twice name)) answer tt
-says words told shaky (replies.ManyCells product) answer fault = plainly words told (replies.ManyCells product) answer tt
-says words told shaky replies.Clash answer fault = plainly words told replies.Clash answer tt
+    → Says words told shaky (text_of words reply) (status_of reply)
+says words told shaky (replies.Refused r) answer fault = says_refused words told shaky r answer fault
+says words told shaky (replies.Known t) answer fault = plainly words told (replies.Known t) answer tt
+says words told shaky (replies.Clash n cell) answer fault = plainly words told (replies.Clash n cell) answer tt
 says words told shaky (replies.Text text) answer fault = plainly words told (replies.Text text) answer tt
-says words told shaky (replies.TooLong parts.Netlist) answer fault = plainly words told (replies.TooLong parts.Netlist) answer tt
-says words told shaky (replies.TooLong parts.Dump) answer fault = plainly words told (replies.TooLong parts.Dump) answer tt
-says words told shaky (replies.Bench bench.NoMemory) answer fault = refl
-says words told shaky (replies.Bench (bench.Syntax line)) answer fault = plainly words told (replies.Bench (bench.Syntax line)) answer tt
-says words told shaky (replies.Bench (bench.NameLong line)) answer fault = plainly words told (replies.Bench (bench.NameLong line)) answer tt
-says words told shaky (replies.Bench (bench.UnknownKind line)) answer fault = plainly words told (replies.Bench (bench.UnknownKind line)) answer tt
-says words told shaky (replies.Bench (bench.WrongPins line)) answer fault = plainly words told (replies.Bench (bench.WrongPins line)) answer tt
-says words told shaky (replies.Net net.NoMemory) answer fault = refl
-says words told shaky (replies.Net (net.TooManySignals line)) answer fault = plainly words told (replies.Net (net.TooManySignals line)) answer tt
-says words told shaky (replies.Net (net.TooManyPins line)) answer fault = plainly words told (replies.Net (net.TooManyPins line)) answer tt
-says words told shaky (replies.Net (net.TwoDrivers line)) answer fault = plainly words told (replies.Net (net.TwoDrivers line)) answer tt
-says words told shaky (replies.Net (net.NoDriver name)) answer fault = plainly words told (replies.Net (net.NoDriver name)) answer tt
-says words told shaky (replies.Net (net.Loop name count)) answer fault = plainly words told (replies.Net (net.Loop name count)) answer tt
-says words told shaky (replies.Dumped dumps.NoMemory) answer fault = refl
-says words told shaky (replies.Dumped (dumps.Head line)) answer fault = plainly words told (replies.Dumped (dumps.Head line)) answer tt
-says words told shaky (replies.Dumped (dumps.Cycles line)) answer fault = plainly words told (replies.Dumped (dumps.Cycles line)) answer tt
-says words told shaky (replies.Dumped (dumps.TooManyCells line product)) answer fault = plainly words told (replies.Dumped (dumps.TooManyCells line product)) answer tt
-says words told shaky (replies.Dumped (dumps.RowSyntax line)) answer fault = plainly words told (replies.Dumped (dumps.RowSyntax line)) answer tt
-says words told shaky (replies.Dumped (dumps.UnknownSignal line)) answer fault = plainly words told (replies.Dumped (dumps.UnknownSignal line)) answer tt
-says words told shaky (replies.Dumped (dumps.TwiceNamed line)) answer fault = plainly words told (replies.Dumped (dumps.TwiceNamed line)) answer tt
-says words told shaky (replies.Dumped (dumps.RowLength line)) answer fault = plainly words told (replies.Dumped (dumps.RowLength line)) answer tt
-says words told shaky (replies.Dumped (dumps.BadBit line)) answer fault = plainly words told (replies.Dumped (dumps.BadBit line)) answer tt

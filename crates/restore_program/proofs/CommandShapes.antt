@@ -1,12 +1,12 @@
 -- Whether words have the shape of a command.
-use Rattle.std.proofs.Common.{◌≡◌, ◌<◌, ◌+◌, ◌⊎◌, ℕ, Bool, List, [], ◌∷◌, zero, suc, length, drop, get_or, map, Some, refl, sym, ap, subst, ◌∙◌, inl, inr, ⊎_elim, lit<, arith}
-use Rattle.std.specs.Prelude.{All, Any, IsTrue, codes, option_map}
+use Rattle.std.proofs.Common.{◌≡◌, ◌<◌, ◌+◌, ℕ, Bool, List, [], ◌∷◌, zero, suc, length, drop, get_or, map, Some, refl, sym, ap, subst, ◌∙◌, lit<, arith}
+use Rattle.std.specs.Prelude.{All, Any, Contains, IsTrue, codes, cond, option_map, ◌==◌}
 use Rattle.std.specs.List.{slice_get}
 use Rattle.std.specs.Str.{bytes_eq}
 use Rattle.std.proofs.lemmas.List.Elements.{All-nil}
 use Rattle.std.proofs.lemmas.Option.{same_Some, slice_get-map, slice_get_read}
 use Rattle.std.proofs.lemmas.Slice.Eq.{bytes_eq-Decides}
-use Rattle.restore_program.specs.Words.{CommandRule, IsCommand, IsGivenRight, IsPrint, IsRestore, IsShaped, Suits, later, print_rule, restore_rule, simulate_rule}
+use Rattle.restore_program.specs.Words.{CommandRule, command_rules, IsCommand, IsGivenRight, IsPrint, IsShaped, Suits, later, print_rule, restore_rule, simulate_rule}
 
 abbrev SuitsAll : CommandRule → List (List ℕ) → Type 0
 SuitsAll rule words = All (λ word. Any (Suits word) rule.keys) words × All (IsGivenRight words) rule.keys
@@ -30,25 +30,10 @@ named_by text xs w seen name files b few at is test =
       λ named. test ∙ (bytes_eq-Decides seen name).1 (same_Some seen name (sym first ∙ named.0)),
     )
 
--- ---- commands without keys
+-- ---- `print`, which has no keys
 
 no_more : (rule : CommandRule) (words : List (List ℕ)) → rule.keys ≡ [] → All (λ word. Any (Suits word) rule.keys) words → ¬ (0 < length words)
 no_more rule words no_keys known some = let any = known 0 [] some in let few : any.0 < length rule.keys = any.2 in omega (arith, few, ap length no_keys)
-
-pub restore_shape : (words : List (List ℕ)) → IsRestore words → IsShaped restore_rule words
-restore_shape words (netlist, dump, e) = subst (IsShaped restore_rule) (sym e) record {
-  named = refl;
-  files = lit< tt;
-  known = All-nil (λ word. Any (Suits word) []);
-  given = All-nil (IsGivenRight []);
-}
-
-pub shape_restore : (words : List (List ℕ)) → IsShaped restore_rule words → IsRestore words
-shape_restore [] shaped = absurd (omega (arith, shaped.files))
-shape_restore (a ∷ []) shaped = absurd (omega (arith, shaped.files))
-shape_restore (a ∷ b ∷ []) shaped = absurd (omega (arith, shaped.files))
-shape_restore (a ∷ b ∷ d ∷ []) shaped = (b, d, ap (λ w. w ∷ b ∷ d ∷ []) (same_Some a (codes "restore") shaped.named))
-shape_restore (a ∷ b ∷ d ∷ e ∷ more) shaped = absurd (no_more restore_rule (e ∷ more) refl shaped.known (omega arith))
 
 pub print_shape : (words : List (List ℕ)) → IsPrint words → IsShaped print_rule words
 print_shape words (netlist, e) = subst (IsShaped print_rule) (sym e) record {
@@ -69,28 +54,56 @@ shape_print (a ∷ b ∷ d ∷ more) shaped = absurd (no_more print_rule (d ∷ 
 pub one_name : (rule other : CommandRule) (words : List (List ℕ)) → IsShaped rule words → IsShaped other words → length rule.name ≡ length other.name
 one_name rule other words shaped again = ap length (same_Some rule.name other.name (sym shaped.named ∙ again.named))
 
-pub restore_or_simulate : (words : List (List ℕ)) → IsRestore words → ¬ IsShaped simulate_rule words
-restore_or_simulate words restore simulate = let e : ◌≡◌ {A = ℕ} 7 8 = one_name restore_rule simulate_rule words (restore_shape words restore) simulate in omega arith
+pub restore_or_simulate : (words : List (List ℕ)) → IsShaped restore_rule words → ¬ IsShaped simulate_rule words
+restore_or_simulate words restore simulate = let e : ◌≡◌ {A = ℕ} 7 8 = one_name restore_rule simulate_rule words restore simulate in omega arith
 
 pub print_or_simulate : (words : List (List ℕ)) → IsPrint words → ¬ IsShaped simulate_rule words
 print_or_simulate words print simulate = let e : ◌≡◌ {A = ℕ} 5 8 = one_name print_rule simulate_rule words (print_shape words print) simulate in omega arith
 
-pub restore_command : (words : List (List ℕ)) → IsRestore words → IsCommand words
-restore_command words restore = (0, restore_rule, lit< tt, refl, restore_shape words restore)
-
-pub simulate_command : (words : List (List ℕ)) → IsShaped simulate_rule words → IsCommand words
-simulate_command words simulate = (1, simulate_rule, lit< tt, refl, simulate)
-
-pub print_command : (words : List (List ℕ)) → IsPrint words → IsCommand words
-print_command words print = (2, print_rule, lit< tt, refl, print_shape words print)
+pub print_or_restore : (words : List (List ℕ)) → IsPrint words → ¬ IsShaped restore_rule words
+print_or_restore words print restore = let e : ◌≡◌ {A = ℕ} 5 7 = one_name print_rule restore_rule words (print_shape words print) restore in omega arith
 
 -- the shape of a command is that of one of the three
-pub command_cases : (words : List (List ℕ)) → IsCommand words → IsRestore words ⊎ (IsShaped simulate_rule words ⊎ IsPrint words)
-command_cases words (zero, rule, h, e, shaped) = inl (shape_restore words (subst (λ r. IsShaped r words) (sym e) shaped))
-command_cases words (suc zero, rule, h, e, shaped) = inr (inl (subst (λ r. IsShaped r words) (sym e) shaped))
-command_cases words (suc (suc zero), rule, h, e, shaped) = inr (inr (shape_print words (subst (λ r. IsShaped r words) (sym e) shaped)))
-command_cases words (suc (suc (suc k)), rule, h, e, shaped) = absurd (omega arith)
-
 pub no_shape : (words : List (List ℕ)) → ¬ IsShaped restore_rule words → ¬ IsShaped simulate_rule words → ¬ IsShaped print_rule words → ¬ IsCommand words
-no_shape words no_restore no_simulate no_print is =
-    ⊎_elim (λ restore. no_restore (restore_shape words restore)) (λ rest. ⊎_elim no_simulate (λ print. no_print (print_shape words print)) rest) (command_cases words is)
+no_shape words no_restore no_simulate no_print (zero, rule, h, e, shaped) = no_restore (subst (λ r. IsShaped r words) (sym e) shaped)
+no_shape words no_restore no_simulate no_print (suc zero, rule, h, e, shaped) = no_simulate (subst (λ r. IsShaped r words) (sym e) shaped)
+no_shape words no_restore no_simulate no_print (suc (suc zero), rule, h, e, shaped) = no_print (subst (λ r. IsShaped r words) (sym e) shaped)
+no_shape words no_restore no_simulate no_print (suc (suc (suc k)), rule, h, e, shaped) = absurd (omega arith)
+
+-- ---- a rule of the table
+
+pub restore_is_one : Contains command_rules restore_rule
+restore_is_one = (0, lit< tt, refl)
+
+pub simulate_is_one : Contains command_rules simulate_rule
+simulate_is_one = (1, lit< tt, refl)
+
+pub print_is_one : Contains command_rules print_rule
+print_is_one = (2, lit< tt, refl)
+
+pub shaped_command : (rule : CommandRule) (words : List (List ℕ)) → Contains command_rules rule → IsShaped rule words → IsCommand words
+shaped_command rule words (k, h, e) shaped = (k, rule, h, e, shaped)
+
+pub restore_command : (words : List (List ℕ)) → IsShaped restore_rule words → IsCommand words
+restore_command words restore = shaped_command restore_rule words restore_is_one restore
+
+pub simulate_command : (words : List (List ℕ)) → IsShaped simulate_rule words → IsCommand words
+simulate_command words simulate = shaped_command simulate_rule words simulate_is_one simulate
+
+pub print_command : (words : List (List ℕ)) → IsPrint words → IsCommand words
+print_command words print = shaped_command print_rule words print_is_one (print_shape words print)
+
+-- the commands' names differ in length
+with_length : ℕ → CommandRule
+with_length n = cond (n == 7) restore_rule (cond (n == 8) simulate_rule print_rule)
+
+with_its_length : (rule : CommandRule) → Contains command_rules rule → with_length (length rule.name) ≡ rule
+unfolding with_length
+with_its_length rule (zero, h, e) = subst (λ r. with_length (length r.name) ≡ r) e refl
+with_its_length rule (suc zero, h, e) = subst (λ r. with_length (length r.name) ≡ r) e refl
+with_its_length rule (suc (suc zero), h, e) = subst (λ r. with_length (length r.name) ≡ r) e refl
+with_its_length rule (suc (suc (suc k)), h, e) = absurd (omega arith)
+
+-- so words have the shape of one command at most
+pub one_command : (rule other : CommandRule) (words : List (List ℕ)) → Contains command_rules rule → Contains command_rules other → IsShaped rule words → IsShaped other words → rule ≡ other
+one_command rule other words is is_other shaped again = sym (with_its_length rule is) ∙ ap with_length (one_name rule other words shaped again) ∙ with_its_length other is_other

@@ -136,3 +136,11 @@ tested_value word name r v b Q says e test =
       λ t. (v.now, gives, test.0 t),
       λ (value, other, q). test.1 (subst Q (same_gift word name value name v.now other gives).1 q),
     )
+
+pub tested_for : (word name value : List ℕ) (r : Option (Bor (List ℕ))) (v : Bor (List ℕ)) (b : Bool) → IsValue word name r → r ≡ Some v → b ≡ bytes_eq v.now value → (IsTrue b → Gives word name value) × (Gives word name value → IsTrue b)
+tested_for word name value r v b says e test =
+    let gives = value_at word name r v says e in
+    let same = bytes_eq-Decides v.now value in (
+      λ t. subst (Gives word name) (same.0 (sym test ∙ t)) gives,
+      λ other. test ∙ same.1 (same_gift word name v.now name value gives other).1,
+    )

@@ -1,5 +1,5 @@
 -- There is one answer at most, and accepted inputs are answered.
-use Rattle.std.proofs.Common.{◌≡◌, ◌⊎◌, ℕ, ◌≤◌, ◌<◌, Bool, true, false, List, [], ◌∷◌, ◌++◌, length, get_or, Some, refl, sym, ap, subst, ◌∙◌, inl, inr, arith}
+use Rattle.std.proofs.Common.{◌≡◌, ◌⊎◌, ℕ, ◌≤◌, ◌<◌, Bool, true, false, List, [], ◌∷◌, ◌++◌, length, Some, refl, sym, ap, subst, ◌∙◌, inl, inr, arith}
 use Rattle.std.specs.Prelude.{codes}
 use Rattle.std.proofs.lemmas.Option.{same_Some}
 use mathlib.Core.Path.{fun_ext}
@@ -7,14 +7,16 @@ use Rattle.sr_model.specs.declared.cells.Cell.{Cell}
 use Rattle.sr_model.specs.declared.cells.Lit.{Lit}
 use Rattle.sr_model.specs.declared.cells.Sig.{Sig}
 use Rattle.sr_model.specs.Declaration.{Declaration}
-use Rattle.sr_model.specs.Closure.{LitSet, HasBoth, SameLits, lit, passing}
+use Rattle.sr_model.specs.Dump.{dump_has}
+use Rattle.sr_model.specs.Closure.{LitSet, CellLe, HasBoth, SameLits, level, lit, passing}
+use Rattle.sr_model.proofs.ClosureLaws.{level_in_Closure}
 use Rattle.sr_outside.specs.Told.{Held}
 use Rattle.bench_reader.specs.Grammar as grammar
 use Rattle.bench_reader.specs.Printed.{bench_text}
 use Rattle.bench_reader.proofs.BenchLaws as texts
-use Rattle.netlist.specs.Circuit.{Circuit, IsCircuit, circuit_of}
+use Rattle.netlist.specs.Circuit.{Circuit, IsCircuit, circuit_of, unrolled_over}
 use Rattle.std.specs.Fmt.{decimal}
-use Rattle.std.specs.List.{All, slice_get}
+use Rattle.std.specs.List.{All}
 use Rattle.std.proofs.lemmas.List.Elements.{All-map}
 use Rattle.netlist.specs.Numbering.{IsStatement}
 use Rattle.netlist.specs.Laws.{SameRefusal}
@@ -28,33 +30,25 @@ use Rattle.dump_reader.specs.Recording.{Recording}
 use Rattle.dump_reader.specs.Grammar.{block_count}
 use Rattle.dump_reader.proofs.SameRows.{one_reading}
 use Rattle.dump_reader.proofs.RefusedOnce as dump_laws
+use Rattle.report.specs.Clash.{clash_line}
+use Rattle.report.specs.InputRefusals.{bench_line, net_line, dump_line}
+use Rattle.report.specs.Refusals.{word_line}
+use Rattle.report.specs.declared.refusal.WordRefusal.TheVariants as word_refusals
+use Rattle.report.specs.Table.{table_text}
 use Rattle.restore_program.specs.declared.status.Status.{Status}
 use Rattle.restore_program.specs.declared.status.Status.TheVariants as statuses
-use Rattle.restore_program.specs.Answer.{most_bytes, IsNetlistText, RefusedNetlist, netlist_too_long, bad_line, no_netlist, IsDumpText, KnownFrom, OnDump, dump_too_long, bad_dump, clash, table, IsNetlistOf, OnRefused, DumpAnswer, RestoreAnswer, PrintAnswer, SimulateAnswer, IsBadKey, Traces, usage, bad_number, simulate, restore, print}
+use Rattle.restore_program.specs.Answer.{most_bytes, IsNetlistText, RefusedNetlist, netlist_too_long, bad_line, no_netlist, IsClashOf, IsDumpText, KnownFrom, traced_count, OnDump, dump_too_long, bad_dump, clash, table, IsNetlistOf, OnNetlist, OnPrint, OnRefused, DumpAnswer, RequestAnswer, Answer, usage, bad_number, asked}
 use Rattle.restore_program.specs.AnswerLaws.{HasOneAnswer, AcceptedIsAnswered, PrintableIsPrinted, TraceableIsTraced}
-use Rattle.restore_program.specs.Reply.{bench_line, net_line, dump_line, number_line, clash_line}
-use Rattle.restore_program.specs.TableText.{table_text}
+use Rattle.restore_program.specs.Requests.{Request, Asks, restoration, simulation, printing}
+use Rattle.restore_program.specs.Sound.{IsTableOrClash}
 use Rattle.restore_program.specs.Tracing.{AreNamed, OnTrace, names_in}
-use Rattle.restore_program.specs.Words.{Restores, Prints, IsShaped, Gives, simulate_rule, trace_rule}
-use Rattle.restore_program.proofs.CommandShapes.{print_command, print_or_simulate, restore_command, restore_or_simulate, simulate_command}
-use Rattle.restore_program.proofs.CommandWords.{print_or_restore}
-use Rattle.restore_program.proofs.GivenValues.{same_gift}
-use Rattle.restore_program.proofs.OneMeaning.{bad_simulate, given_trace, one_simulation, same_first, same_value, simulate_or_bad}
+use Rattle.restore_program.proofs.OneMeaning.{one_bad}
+use Rattle.restore_program.proofs.OneRequest.{asked_command, asked_good, one_request}
 use Rattle.restore_program.proofs.OneTrace.{one_on_trace, traced_done}
 
 -- no list is both too long and not
 not_longer : (bytes : List ℕ) → length bytes ≤ most_bytes → most_bytes < length bytes → ⊥
 not_longer bytes short long = omega (arith, short, long)
-
--- words ask for one netlist and one dump
-same_names : (words : List (List ℕ)) (a b c d : List ℕ) → Restores words a b → Restores words c d → (a ≡ c) × (b ≡ d)
-same_names words a b c d first second =
-    let e : codes "restore" ∷ a ∷ b ∷ [] ≡ codes "restore" ∷ c ∷ d ∷ [] = sym first ∙ second in
-    (ap (λ ws. get_or ws 1 []) e, ap (λ ws. get_or ws 2 []) e)
-
-same_name : (words : List (List ℕ)) (a b : List ℕ) → Prints words a → Prints words b → a ≡ b
-same_name words a b first second =
-    let e : codes "print" ∷ a ∷ [] ≡ codes "print" ∷ b ∷ [] = sym first ∙ second in ap (λ ws. get_or ws 1 []) e
 
 -- an input holds one list of bytes
 same_held : (held : Held) (name bytes other : List ℕ) → held name ≡ Some bytes → held name ≡ Some other → bytes ≡ other
@@ -71,7 +65,7 @@ same_netlist : (held : Held) (name : List ℕ) (c d : Circuit) → IsNetlistOf h
 same_netlist held name c d (bytes, there, text) (other, again, other_text) =
     same_circuit bytes c d text (subst (λ b. IsNetlistText b d) (sym (same_held held name bytes other there again)) other_text)
 
-is_circuit : (bytes : List ℕ) (c : Circuit) → IsNetlistText bytes c → IsCircuit c
+pub is_circuit : (bytes : List ℕ) (c : Circuit) → IsNetlistText bytes c → IsCircuit c
 is_circuit bytes c a =
     let are : All IsStatement (checks.without_lines a.stated) =
     All-map IsStatement (λ (x : ℕ × Declaration). x.1) a.stated (read_are 1 (grammar.text_lines bytes) a.stated a.spells) in
@@ -151,36 +145,59 @@ same_test known test last a b = fun_ext (λ l. same_bit (test l) (last l) (λ h.
 one_recording : (c : Circuit) (bytes : List ℕ) (a b : Recording) → IsCircuit c → IsDumpText c bytes a → IsDumpText c bytes b → a ≡ b
 one_recording c bytes a b circuit first second = one_reading c bytes a b circuit first.1 second.1
 
--- a dump that makes both literals of a cell known has no table
-no_table : (c : Circuit) (d : Recording) (cell : Cell) (test : Lit → Bool) → HasBoth (KnownFrom c d) cell → SameLits (passing test) (KnownFrom c d) → ((x : Cell) → HasBoth (passing test) x → ⊥) → ⊥
-no_table c d cell test both passes no_clash = no_clash cell (passes.1 (lit cell false) both.0, passes.1 (lit cell true) both.1)
+-- ---- one contradiction
 
-one_on_dump : (c : Circuit) (bytes text other : List ℕ) (status last : Status) → IsCircuit c → OnDump c bytes text status → OnDump c bytes other last → (text ≡ other) × (status ≡ last)
-one_on_dump c bytes text other status last circuit (dump_too_long long) (dump_too_long _) = (refl, refl)
-one_on_dump c bytes text other status last circuit (dump_too_long long) (bad_dump _ short _ _) = absurd (not_longer bytes short long)
-one_on_dump c bytes text other status last circuit (dump_too_long long) (clash _ _ is _) = absurd (not_longer bytes is.0 long)
-one_on_dump c bytes text other status last circuit (dump_too_long long) (table _ _ is _ _) = absurd (not_longer bytes is.0 long)
-one_on_dump c bytes text other status last circuit (bad_dump _ short _ _) (dump_too_long long) = absurd (not_longer bytes short long)
-one_on_dump c bytes text other status last circuit (bad_dump r _ some is) (bad_dump s _ some_s is_s) = (ap dump_line (dump_laws.one_refusal c bytes r s circuit is is_s some some_s), refl)
-one_on_dump c bytes text other status last circuit (bad_dump r _ some is) (clash d _ read _) = absurd (some (dump_laws.not_both c bytes d r circuit read.1 is))
-one_on_dump c bytes text other status last circuit (bad_dump r _ some is) (table d _ read _ _) = absurd (some (dump_laws.not_both c bytes d r circuit read.1 is))
-one_on_dump c bytes text other status last circuit (clash _ _ is _) (dump_too_long long) = absurd (not_longer bytes is.0 long)
-one_on_dump c bytes text other status last circuit (clash d _ read _) (bad_dump r _ some is) = absurd (some (dump_laws.not_both c bytes d r circuit read.1 is))
-one_on_dump c bytes text other status last circuit (clash _ _ _ _) (clash _ _ _ _) = (refl, refl)
-one_on_dump c bytes text other status last circuit (clash a cell read both) (table b test again passes no_clash) =
-    absurd (no_table c b cell test (subst (λ d. HasBoth (KnownFrom c d) cell) (one_recording c bytes a b circuit read again) both) passes no_clash)
-one_on_dump c bytes text other status last circuit (table _ _ is _ _) (dump_too_long long) = absurd (not_longer bytes is.0 long)
-one_on_dump c bytes text other status last circuit (table d _ read _ _) (bad_dump r _ some is) = absurd (some (dump_laws.not_both c bytes d r circuit read.1 is))
-one_on_dump c bytes text other status last circuit (table a test read passes no_clash) (clash b cell again both) =
-    absurd (no_table c a cell test (subst (λ d. HasBoth (KnownFrom c d) cell) (one_recording c bytes b a circuit again read) both) passes no_clash)
-one_on_dump c bytes text other status last circuit (table a test read passes _) (table b final again passes_final _) =
+same_cell : (a b : Cell) → CellLe a b → CellLe b a → a ≡ b
+same_cell a b (inl less) (inl more) = absurd (omega (arith, less, more))
+same_cell a b (inl less) (inr (same, _)) = absurd (omega (arith, less, same))
+same_cell a b (inr (same, _)) (inl more) = absurd (omega (arith, same, more))
+same_cell a b (inr (same, low)) (inr (_, high)) =
+    let signals : a.sig.0 ≡ b.sig.0 = omega (arith, low, high) in
+    ap (λ n. record { cycle = n; sig = a.sig }) same ∙ ap (λ n. record { cycle = b.cycle; sig = record { 0 = n } }) signals
+
+one_clash : (c : Circuit) (d : Recording) (a b : Cell) → IsClashOf c d a → IsClashOf c d b → a ≡ b
+one_clash c d a b (i, first) (j, second) =
+    let same : i ≡ j = omega (arith, first.first_level j b second.both, second.first_level i a first.both) in
+    same_cell a b (first.least_cell b (subst (λ n. HasBoth (level (unrolled_over c d.cycles) (passing (dump_has d.rows)) n) b) (sym same) second.both))
+    (second.least_cell a (subst (λ n. HasBoth (level (unrolled_over c d.cycles) (passing (dump_has d.rows)) n) a) same first.both))
+
+-- both literals of its cell are known
+pub clash_known : (c : Circuit) (d : Recording) (cell : Cell) → IsClashOf c d cell → HasBoth (KnownFrom c d) cell
+clash_known c d cell (i, first) =
+    let within = level_in_Closure (unrolled_over c d.cycles) (passing (dump_has d.rows)) i in (within (lit cell false) first.both.0, within (lit cell true) first.both.1)
+
+-- so there is no table
+no_table : (c : Circuit) (a b : Recording) (cell : Cell) (test : Lit → Bool) → a ≡ b → IsClashOf c a cell → SameLits (passing test) (KnownFrom c b) → ((x : Cell) → HasBoth (passing test) x → ⊥) → ⊥
+no_table c a b cell test same is passes no_clash =
+    let both : HasBoth (KnownFrom c b) cell = clash_known c b cell (subst (λ d. IsClashOf c d cell) same is) in no_clash cell (passes.1 (lit cell false) both.0, passes.1 (lit cell true) both.1)
+
+-- ---- one answer to a dump
+
+one_on_dump : (c : Circuit) (bytes : List ℕ) (all : Bool) (text other : List ℕ) (status last : Status) → IsCircuit c → OnDump c bytes all text status → OnDump c bytes all other last → (text ≡ other) × (status ≡ last)
+one_on_dump c bytes all text other status last circuit (dump_too_long long) (dump_too_long _) = (refl, refl)
+one_on_dump c bytes all text other status last circuit (dump_too_long long) (bad_dump _ short _ _) = absurd (not_longer bytes short long)
+one_on_dump c bytes all text other status last circuit (dump_too_long long) (clash _ _ is _) = absurd (not_longer bytes is.0 long)
+one_on_dump c bytes all text other status last circuit (dump_too_long long) (table _ _ is _ _) = absurd (not_longer bytes is.0 long)
+one_on_dump c bytes all text other status last circuit (bad_dump _ short _ _) (dump_too_long long) = absurd (not_longer bytes short long)
+one_on_dump c bytes all text other status last circuit (bad_dump r _ some is) (bad_dump s _ some_s is_s) = (ap dump_line (dump_laws.one_refusal c bytes r s circuit is is_s some some_s), refl)
+one_on_dump c bytes all text other status last circuit (bad_dump r _ some is) (clash d _ read _) = absurd (some (dump_laws.not_both c bytes d r circuit read.1 is))
+one_on_dump c bytes all text other status last circuit (bad_dump r _ some is) (table d _ read _ _) = absurd (some (dump_laws.not_both c bytes d r circuit read.1 is))
+one_on_dump c bytes all text other status last circuit (clash _ _ is _) (dump_too_long long) = absurd (not_longer bytes is.0 long)
+one_on_dump c bytes all text other status last circuit (clash d _ read _) (bad_dump r _ some is) = absurd (some (dump_laws.not_both c bytes d r circuit read.1 is))
+one_on_dump c bytes all text other status last circuit (clash a cell read is) (clash b next again is_too) =
+    (ap (clash_line c) (one_clash c b cell next (subst (λ d. IsClashOf c d cell) (one_recording c bytes a b circuit read again) is) is_too), refl)
+one_on_dump c bytes all text other status last circuit (clash a cell read is) (table b test again passes no_clash) = absurd (no_table c a b cell test (one_recording c bytes a b circuit read again) is passes no_clash)
+one_on_dump c bytes all text other status last circuit (table _ _ is _ _) (dump_too_long long) = absurd (not_longer bytes is.0 long)
+one_on_dump c bytes all text other status last circuit (table d _ read _ _) (bad_dump r _ some is) = absurd (some (dump_laws.not_both c bytes d r circuit read.1 is))
+one_on_dump c bytes all text other status last circuit (table a test read passes no_clash) (clash b cell again is) = absurd (no_table c b a cell test (one_recording c bytes b a circuit again read) is passes no_clash)
+one_on_dump c bytes all text other status last circuit (table a test read passes _) (table b final again passes_final _) =
     let same : a ≡ b = one_recording c bytes a b circuit read again in
     let tests : test ≡ final = same_test (KnownFrom c b) test final (subst (λ d. SameLits (passing test) (KnownFrom c d)) same passes) passes_final in
-    (ap (λ (d : Recording). table_text c d.cycles test) same ∙ ap (table_text c b.cycles) tests, refl)
+    (ap (λ (d : Recording). table_text c d.cycles test (traced_count c d) all) same ∙ ap (λ known. table_text c b.cycles known (traced_count c b) all) tests, refl)
 
-one_to_dump : (held : Held) (c : Circuit) (dump text other : List ℕ) (status last : Status) → IsCircuit c → DumpAnswer held c dump text status → DumpAnswer held c dump other last → (text ≡ other) × (status ≡ last)
-one_to_dump held c dump text other status last circuit (bytes, there, on) (again, there_again, on_again) =
-    one_on_dump c again text other status last circuit (subst (λ b. OnDump c b text status) (same_held held dump bytes again there there_again) on) on_again
+one_to_dump : (held : Held) (c : Circuit) (dump : List ℕ) (all : Bool) (text other : List ℕ) (status last : Status) → IsCircuit c → DumpAnswer held c dump all text status → DumpAnswer held c dump all other last → (text ≡ other) × (status ≡ last)
+one_to_dump held c dump all text other status last circuit (bytes, there, on) (again, there_again, on_again) =
+    one_on_dump c again all text other status last circuit (subst (λ b. OnDump c b all text status) (same_held held dump bytes again there there_again) on) on_again
 
 -- ---- one answer
 
@@ -192,151 +209,64 @@ never_both : (held : Held) (name text : List ℕ) (status : Status) (c : Circuit
 never_both held name text status c (bytes, there, refused) (again, there_again, is) =
     refused_or_read again c text status (subst (λ b. RefusedNetlist b text status) (same_held held name bytes again there there_again) refused) is
 
-one_restore : (held : Held) (netlist dump text other : List ℕ) (status last : Status) → RestoreAnswer held netlist dump text status → RestoreAnswer held netlist dump other last → (text ≡ other) × (status ≡ last)
-one_restore held netlist dump text other status last (inl a) (inl b) = one_to_refused held netlist text other status last a b
-one_restore held netlist dump text other status last (inl a) (inr (c, is, on)) = absurd (never_both held netlist text status c a is)
-one_restore held netlist dump text other status last (inr (c, is, on)) (inl b) = absurd (never_both held netlist other last c b is)
-one_restore held netlist dump text other status last (inr (c, is, on)) (inr (d, again, on_again)) =
-    one_to_dump held d dump text other status last (is_circuit again.0 d again.2) (subst (λ x. DumpAnswer held x dump text status) (same_netlist held netlist c d is again) on) on_again
+-- behind a netlist
+module _ (held : Held) (netlist : List ℕ) (P : Circuit → List ℕ → Status → Type 0) where
+  one_on_netlist : ((c : Circuit) (text other : List ℕ) (status last : Status) → IsCircuit c → P c text status → P c other last → (text ≡ other) × (status ≡ last))
+      → (text other : List ℕ) (status last : Status) → OnNetlist held netlist P text status → OnNetlist held netlist P other last → (text ≡ other) × (status ≡ last)
+  one_on_netlist one text other status last (inl a) (inl b) = one_to_refused held netlist text other status last a b
+  one_on_netlist one text other status last (inl a) (inr (c, is, on)) = absurd (never_both held netlist text status c a is)
+  one_on_netlist one text other status last (inr (c, is, on)) (inl b) = absurd (never_both held netlist other last c b is)
+  one_on_netlist one text other status last (inr (c, is, on)) (inr (d, again, on_again)) =
+      one d text other status last (is_circuit again.0 d again.2) (subst (λ x. P x text status) (same_netlist held netlist c d is again) on) on_again
 
-one_print : (held : Held) (netlist text other : List ℕ) (status last : Status) → PrintAnswer held netlist text status → PrintAnswer held netlist other last → (text ≡ other) × (status ≡ last)
-one_print held netlist text other status last (inl a) (inl b) = one_to_refused held netlist text other status last a b
-one_print held netlist text other status last (inl a) (inr (c, is, e, done)) = absurd (never_both held netlist text status c a is)
-one_print held netlist text other status last (inr (c, is, e, done)) (inl b) = absurd (never_both held netlist other last c b is)
-one_print held netlist text other status last (inr (c, is, e, done)) (inr (d, again, e_d, done_d)) = (e ∙ ap (λ x. bench_text x) (same_netlist held netlist c d is again) ∙ sym e_d, done ∙ sym done_d)
+  -- what is so on this netlist
+  pub on_this_netlist : (c : Circuit) (text : List ℕ) (status : Status) → IsNetlistOf held netlist c → OnNetlist held netlist P text status → P c text status
+  on_this_netlist c text status is (inl refused) = absurd (never_both held netlist text status c refused is)
+  on_this_netlist c text status is (inr (d, again, on)) = subst (λ x. P x text status) (same_netlist held netlist d c again is) on
 
-one_simulate : (held : Held) (netlist : List ℕ) (cycles seed : ℕ) (list text other : List ℕ) (status last : Status) → SimulateAnswer held netlist cycles seed list text status
-    → SimulateAnswer held netlist cycles seed list other last → (text ≡ other) × (status ≡ last)
-one_simulate held netlist cycles seed list text other status last (inl a) (inl b) = one_to_refused held netlist text other status last a b
-one_simulate held netlist cycles seed list text other status last (inl a) (inr (c, is, on)) = absurd (never_both held netlist text status c a is)
-one_simulate held netlist cycles seed list text other status last (inr (c, is, on)) (inl b) = absurd (never_both held netlist other last c b is)
-one_simulate held netlist cycles seed list text other status last (inr (c, is, on)) (inr (d, again, on_again)) =
-    one_on_trace d cycles seed list text other status last (is_circuit again.0 d again.2) (subst (λ x. OnTrace x cycles seed list text status) (same_netlist held netlist c d is again) on) on_again
+one_print : (c : Circuit) (text other : List ℕ) (status last : Status) → OnPrint c text status → OnPrint c other last → (text ≡ other) × (status ≡ last)
+one_print c text other status last (e, done) (e', done') = (e ∙ sym e', done ∙ sym done')
 
--- ---- what is asked for is one
-
--- the netlist, the numbers and the list of a `simulate`
-same_run : (words : List (List ℕ)) (a b : List ℕ) (cycles seed cycles' seed' : ℕ) (list list' : List ℕ) → Traces words a cycles seed list → Traces words b cycles' seed' list'
-    → (a ≡ b) × (cycles ≡ cycles') × (seed ≡ seed') × (list ≡ list')
-same_run words a b cycles seed cycles' seed' list list' (place, run, gives) (next, again, gives_again) =
-    let numbers : (cycles ≡ cycles') × (seed ≡ seed') × (place ≡ next) = one_simulation words a b cycles seed place cycles' seed' next run again in (
-      same_Some a b (sym run.is_netlist ∙ again.is_netlist),
-      numbers.0,
-      numbers.1,
-      same_value simulate_rule words trace_rule place next list list' (given_trace words run.shaped) gives gives_again,
-    )
-
-same_asked : (words : List (List ℕ)) (held : Held) (a b : List ℕ) (cycles seed cycles' seed' : ℕ) (list list' text : List ℕ) (status : Status) → Traces words a cycles seed list → Traces words b cycles' seed' list'
-    → SimulateAnswer held a cycles seed list text status → SimulateAnswer held b cycles' seed' list' text status
-same_asked words held a b cycles seed cycles' seed' list list' text status first second on =
-    let same = same_run words a b cycles seed cycles' seed' list list' first second in
-    subst (λ l. SimulateAnswer held b cycles' seed' l text status) same.3
-    (subst (λ s. SimulateAnswer held b cycles' s list text status) same.2 (subst (λ n. SimulateAnswer held b n seed list text status) same.1 (subst (λ n. SimulateAnswer held n cycles seed list text status) same.0 on)))
-
--- the key of the first bad number
-same_key : (words : List (List ℕ)) (key other : List ℕ) → IsBadKey words key → IsBadKey words other → key ≡ other
-same_key words key other a b =
-    let place : a.place ≡ b.place = same_first simulate_rule words a.place b.place (bad_simulate words a.place a.bad).1 (bad_simulate words b.place b.bad).1 in
-    let word : a.word ≡ b.word = same_Some a.word b.word (sym a.at ∙ ap (slice_get words) place ∙ b.at) in
-    (same_gift b.word key a.value other b.value (subst (λ w. Gives w key a.value) word a.gives) b.gives).0
-
--- ---- words ask for one thing
-
--- words with a bad number are those of a `simulate`
-bad_shape : (words : List (List ℕ)) (key : List ℕ) → IsBadKey words key → IsShaped simulate_rule words
-bad_shape words key bad = (bad_simulate words bad.place bad.bad).0
-
-run_shape : (words : List (List ℕ)) (netlist : List ℕ) (cycles seed : ℕ) (list : List ℕ) → Traces words netlist cycles seed list → IsShaped simulate_rule words
-run_shape words netlist cycles seed list (place, run, gives) = run.shaped
-
-run_or_bad : (words : List (List ℕ)) (netlist : List ℕ) (cycles seed : ℕ) (list key : List ℕ) → Traces words netlist cycles seed list → ¬ IsBadKey words key
-run_or_bad words netlist cycles seed list key (place, run, gives) bad = simulate_or_bad words netlist cycles seed place bad.place run (bad_simulate words bad.place bad.bad).1.0
+one_to_request : (held : Held) (request : Request) (text other : List ℕ) (status last : Status) → RequestAnswer held request text status → RequestAnswer held request other last → (text ≡ other) × (status ≡ last)
+one_to_request held (restoration netlist dump all) = one_on_netlist held netlist (λ c. DumpAnswer held c dump all) (λ c text other status last is. one_to_dump held c dump all text other status last is)
+one_to_request held (simulation netlist cycles seed list) = one_on_netlist held netlist (λ c. OnTrace c cycles seed list) (λ c text other status last is. one_on_trace c cycles seed list text other status last is)
+one_to_request held (printing netlist) = one_on_netlist held netlist OnPrint (λ c text other status last is. one_print c text other status last)
 
 pub one_answer : HasOneAnswer
 one_answer words held text other status last (usage refused) (usage _) = (refl, refl)
-one_answer words held text other status last (usage refused) (bad_number key bad) = absurd (refused (simulate_command words (bad_shape words key bad)))
-one_answer words held text other status last (usage refused) (simulate n l c s _ _ asks _) = absurd (refused (simulate_command words (run_shape words n c s l asks)))
-one_answer words held text other status last (usage refused) (restore netlist dump _ _ asks _) = absurd (refused (restore_command words (netlist, dump, asks)))
-one_answer words held text other status last (usage refused) (print netlist _ _ asks _) = absurd (refused (print_command words (netlist, asks)))
-one_answer words held text other status last (bad_number key bad) (usage refused) = absurd (refused (simulate_command words (bad_shape words key bad)))
-one_answer words held text other status last (bad_number key bad) (bad_number own own_bad) = (ap number_line (same_key words key own bad own_bad), refl)
-one_answer words held text other status last (bad_number key bad) (simulate n l c s _ _ asks _) = absurd (run_or_bad words n c s l key asks bad)
-one_answer words held text other status last (bad_number key bad) (restore netlist dump _ _ asks _) = absurd (restore_or_simulate words (netlist, dump, asks) (bad_shape words key bad))
-one_answer words held text other status last (bad_number key bad) (print netlist _ _ asks _) = absurd (print_or_simulate words (netlist, asks) (bad_shape words key bad))
-one_answer words held text other status last (simulate n l c s _ _ asks _) (usage refused) = absurd (refused (simulate_command words (run_shape words n c s l asks)))
-one_answer words held text other status last (simulate n l c s _ _ asks _) (bad_number key bad) = absurd (run_or_bad words n c s l key asks bad)
-one_answer words held text other status last (simulate n l c s _ _ asks on) (simulate own own_list cycles seed _ _ own_asks own_on) =
-    one_simulate held own cycles seed own_list text other status last (same_asked words held n own c s cycles seed l own_list text status asks own_asks on) own_on
-one_answer words held text other status last (simulate n l c s _ _ asks _) (restore netlist dump _ _ own_asks _) = absurd (restore_or_simulate words (netlist, dump, own_asks) (run_shape words n c s l asks))
-one_answer words held text other status last (simulate n l c s _ _ asks _) (print netlist _ _ own_asks _) = absurd (print_or_simulate words (netlist, own_asks) (run_shape words n c s l asks))
-one_answer words held text other status last (restore netlist dump _ _ asks _) (usage refused) = absurd (refused (restore_command words (netlist, dump, asks)))
-one_answer words held text other status last (restore netlist dump _ _ asks _) (bad_number key bad) = absurd (restore_or_simulate words (netlist, dump, asks) (bad_shape words key bad))
-one_answer words held text other status last (restore netlist dump _ _ asks _) (simulate n l c s _ _ own_asks _) = absurd (restore_or_simulate words (netlist, dump, asks) (run_shape words n c s l own_asks))
-one_answer words held text other status last (restore netlist dump _ _ asks on) (restore own own_dump _ _ own_asks own_on) =
-    let same : (netlist ≡ own) × (dump ≡ own_dump) = same_names words netlist dump own own_dump asks own_asks in
-    one_restore held own own_dump text other status last (subst (λ n. RestoreAnswer held n own_dump text status) same.0 (subst (λ d. RestoreAnswer held netlist d text status) same.1 on)) own_on
-one_answer words held text other status last (restore netlist dump _ _ asks _) (print own _ _ own_asks _) = absurd (print_or_restore words (own, own_asks) (netlist, dump, asks))
-one_answer words held text other status last (print netlist _ _ asks _) (usage refused) = absurd (refused (print_command words (netlist, asks)))
-one_answer words held text other status last (print netlist _ _ asks _) (bad_number key bad) = absurd (print_or_simulate words (netlist, asks) (bad_shape words key bad))
-one_answer words held text other status last (print netlist _ _ asks _) (simulate n l c s _ _ own_asks _) = absurd (print_or_simulate words (netlist, asks) (run_shape words n c s l own_asks))
-one_answer words held text other status last (print own _ _ own_asks _) (restore netlist dump _ _ asks _) = absurd (print_or_restore words (own, own_asks) (netlist, dump, asks))
-one_answer words held text other status last (print netlist _ _ asks on) (print own _ _ own_asks own_on) =
-    one_print held own text other status last (subst (λ n. PrintAnswer held n text status) (same_name words netlist own asks own_asks) on) own_on
+one_answer words held text other status last (usage refused) (bad_number place (k, rule, h, e, (shaped, first))) = absurd (refused (k, rule, h, e, shaped))
+one_answer words held text other status last (usage refused) (asked request _ _ asks _) = absurd (refused (asked_command words request asks))
+one_answer words held text other status last (bad_number place (k, rule, h, e, (shaped, first))) (usage refused) = absurd (refused (k, rule, h, e, shaped))
+one_answer words held text other status last (bad_number place bad) (bad_number next bad_too) = (ap (λ p. word_line words (word_refusals.Number p)) (one_bad words place next bad bad_too), refl)
+one_answer words held text other status last (bad_number place bad) (asked request _ _ asks _) = absurd (asked_good words request place asks bad)
+one_answer words held text other status last (asked request _ _ asks on) (usage refused) = absurd (refused (asked_command words request asks))
+one_answer words held text other status last (asked request _ _ asks on) (bad_number place bad) = absurd (asked_good words request place asks bad)
+one_answer words held text other status last (asked request _ _ asks on) (asked own _ _ asks_own on_own) =
+    one_to_request held own text other status last (subst (λ r. RequestAnswer held r text status) (one_request words request own asks asks_own) on) on_own
 
 -- ---- accepted inputs
 
--- a table, or that both literals of some cell follow
-IsTableOrClash : List ℕ → Status → Type 0
-IsTableOrClash text status = (status ≡ statuses.Done) ⊎ ((status ≡ statuses.Dump) × (text ≡ clash_line))
+-- the answer is that to what is asked for
+pub answer_to : (words : List (List ℕ)) (held : Held) (request : Request) (text : List ℕ) (status : Status) → Asks words request → Answer words held text status → RequestAnswer held request text status
+answer_to words held request text status asks (usage refused) = absurd (refused (asked_command words request asks))
+answer_to words held request text status asks (bad_number place bad) = absurd (asked_good words request place asks bad)
+answer_to words held request text status asks (asked own _ _ asks_own on) = subst (λ r. RequestAnswer held r text status) (one_request words own request asks_own asks) on
 
-dump_answered : (c : Circuit) (bytes : List ℕ) (d : Recording) (text : List ℕ) (status : Status) → IsCircuit c → IsDumpText c bytes d → OnDump c bytes text status → IsTableOrClash text status
-unfolding IsTableOrClash
-dump_answered c bytes d text status circuit is (dump_too_long long) = absurd (not_longer bytes is.0 long)
-dump_answered c bytes d text status circuit is (bad_dump r _ some bad) = absurd (some (dump_laws.not_both c bytes d r circuit is.1 bad))
-dump_answered c bytes d text status circuit is (clash _ _ _ _) = inr (refl, refl)
-dump_answered c bytes d text status circuit is (table _ _ _ _ _) = inl refl
-
-restore_answered : (held : Held) (netlist dump dump_bytes : List ℕ) (c : Circuit) (d : Recording) (text : List ℕ) (status : Status) → IsNetlistOf held netlist c → held dump ≡ Some dump_bytes → IsDumpText c dump_bytes d
-    → RestoreAnswer held netlist dump text status → IsTableOrClash text status
-restore_answered held netlist dump dump_bytes c d text status is there read (inl refused) = absurd (never_both held netlist text status c refused is)
-restore_answered held netlist dump dump_bytes c d text status is there read (inr (own, own_is, (bytes, own_there, on))) =
-    let same : own ≡ c = same_netlist held netlist own c own_is is in
-    let same_bytes : bytes ≡ dump_bytes = same_held held dump bytes dump_bytes own_there there in
-    dump_answered c dump_bytes d text status (is_circuit is.0 c is.2) read (subst (λ b. OnDump c b text status) same_bytes (subst (λ x. OnDump x bytes text status) same on))
+dump_answered : (c : Circuit) (bytes : List ℕ) (d : Recording) (all : Bool) (text : List ℕ) (status : Status) → IsCircuit c → IsDumpText c bytes d → OnDump c bytes all text status → IsTableOrClash status
+dump_answered c bytes d all text status circuit is (dump_too_long long) = absurd (not_longer bytes is.0 long)
+dump_answered c bytes d all text status circuit is (bad_dump r _ some bad) = absurd (some (dump_laws.not_both c bytes d r circuit is.1 bad))
+dump_answered c bytes d all text status circuit is (clash _ _ _ _) = inr refl
+dump_answered c bytes d all text status circuit is (table _ _ _ _ _) = inl refl
 
 pub accepted_is_answered : AcceptedIsAnswered
-unfolding IsTableOrClash
-accepted_is_answered words held c d a text status (usage refused) = absurd (refused (restore_command words (a.netlist, a.dump, a.asked)))
-accepted_is_answered words held c d a text status (bad_number key bad) = absurd (restore_or_simulate words (a.netlist, a.dump, a.asked) (bad_shape words key bad))
-accepted_is_answered words held c d a text status (simulate n l cycles s _ _ asks _) = absurd (restore_or_simulate words (a.netlist, a.dump, a.asked) (run_shape words n cycles s l asks))
-accepted_is_answered words held c d a text status (print own _ _ own_asks _) = absurd (print_or_restore words (own, own_asks) (a.netlist, a.dump, a.asked))
-accepted_is_answered words held c d a text status (restore netlist dump _ _ asks on) =
-    let same : (netlist ≡ a.netlist) × (dump ≡ a.dump) = same_names words netlist dump a.netlist a.dump asks a.asked in
-    restore_answered held a.netlist a.dump a.dump_bytes c d text status a.netlist_held a.dump_held a.dump_text
-    (subst (λ n. RestoreAnswer held n a.dump text status) same.0 (subst (λ x. RestoreAnswer held netlist x text status) same.1 on))
-
-printed_done : (held : Held) (netlist : List ℕ) (c : Circuit) (text : List ℕ) (status : Status) → IsNetlistOf held netlist c → PrintAnswer held netlist text status → status ≡ statuses.Done
-printed_done held netlist c text status is (inl refused) = absurd (never_both held netlist text status c refused is)
-printed_done held netlist c text status is (inr (d, again, e, done)) = done
+accepted_is_answered words held c d all a text status answer =
+    let on = on_this_netlist held a.netlist (λ n. DumpAnswer held n a.dump all) c text status a.netlist_held (answer_to words held (restoration a.netlist a.dump all) text status a.asked answer) in
+    dump_answered c a.dump_bytes d all text status (is_circuit a.netlist_held.0 c a.netlist_held.2) a.dump_text (subst (λ b. OnDump c b all text status) (same_held held a.dump on.0 a.dump_bytes on.1 a.dump_held) on.2)
 
 pub printable_is_printed : PrintableIsPrinted
-printable_is_printed words held (netlist, c, asked, is) text status (usage refused) = absurd (refused (print_command words (netlist, asked)))
-printable_is_printed words held (netlist, c, asked, is) text status (bad_number key bad) = absurd (print_or_simulate words (netlist, asked) (bad_shape words key bad))
-printable_is_printed words held (netlist, c, asked, is) text status (simulate n l cycles s _ _ asks _) = absurd (print_or_simulate words (netlist, asked) (run_shape words n cycles s l asks))
-printable_is_printed words held (netlist, c, asked, is) text status (restore own dump _ _ own_asks on) = absurd (print_or_restore words (netlist, asked) (own, dump, own_asks))
-printable_is_printed words held (netlist, c, asked, is) text status (print own _ _ own_asks on) =
-    printed_done held netlist c text status is (subst (λ n. PrintAnswer held n text status) (same_name words own netlist own_asks asked) on)
-
-simulated_done : (held : Held) (netlist : List ℕ) (cycles seed : ℕ) (list : List ℕ) (c : Circuit) (sigs : List Sig) (text : List ℕ) (status : Status) → IsNetlistOf held netlist c → AreNamed c (names_in list) sigs
-    → block_count (length c.drivers) cycles ≤ 4194304 → SimulateAnswer held netlist cycles seed list text status → status ≡ statuses.Done
-simulated_done held netlist cycles seed list c sigs text status is named few (inl refused) = absurd (never_both held netlist text status c refused is)
-simulated_done held netlist cycles seed list c sigs text status is named few (inr (d, again, on)) =
-    traced_done c cycles seed list text status sigs named few (subst (λ x. OnTrace x cycles seed list text status) (same_netlist held netlist d c again is) on)
+printable_is_printed words held (netlist, c, asks, is) text status answer = (on_this_netlist held netlist OnPrint c text status is (answer_to words held (printing netlist) text status asks answer)).1
 
 pub traceable_is_traced : TraceableIsTraced
-traceable_is_traced words held t text status (usage refused) = absurd (refused (simulate_command words (run_shape words t.netlist t.cycles t.seed t.list t.asked)))
-traceable_is_traced words held t text status (bad_number key bad) = absurd (run_or_bad words t.netlist t.cycles t.seed t.list key t.asked bad)
-traceable_is_traced words held t text status (restore own dump _ _ own_asks on) = absurd (restore_or_simulate words (own, dump, own_asks) (run_shape words t.netlist t.cycles t.seed t.list t.asked))
-traceable_is_traced words held t text status (print own _ _ own_asks on) = absurd (print_or_simulate words (own, own_asks) (run_shape words t.netlist t.cycles t.seed t.list t.asked))
-traceable_is_traced words held t text status (simulate n l cycles seed _ _ asks on) =
-    simulated_done held t.netlist t.cycles t.seed t.list t.c t.sigs text status t.netlist_held t.named t.few (same_asked words held n t.netlist cycles seed t.cycles t.seed l t.list text status asks t.asked on)
+traceable_is_traced words held t text status answer =
+    traced_done t.c t.cycles t.seed t.list text status t.sigs t.named t.few
+    (on_this_netlist held t.netlist (λ c. OnTrace c t.cycles t.seed t.list) t.c text status t.netlist_held (answer_to words held (simulation t.netlist t.cycles t.seed t.list) text status t.asked answer))

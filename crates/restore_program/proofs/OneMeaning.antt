@@ -1,5 +1,6 @@
 -- Words have one meaning at most.
-use Rattle.std.proofs.Common.{◌≡◌, ◌<◌, ◌+◌, ◌-◌, ◌^◌, ◌⊎◌, ℕ, List, [], zero, suc, length, get_or, Some, Result, Ok, Err, refl, sym, ap, subst, ◌∙◌, ⊎_elim, lit<, arith}
+use Rattle.std.proofs.Common.{◌≡◌, ◌<◌, ◌+◌, ◌-◌, ◌^◌, ◌⊎◌, ℕ, Bool, true, false, List, [], zero, suc, length, get_or, Some, Result, Ok, Err, refl, sym, ap, subst, ◌∙◌, ⊎_elim, lit<, arith}
+use Rattle.std.specs.Prelude.{Contains, IsTrue}
 use Rattle.std.specs.List.{slice_get}
 use Rattle.std.proofs.lemmas.Bool.{cases_order}
 use Rattle.std.proofs.lemmas.Fmt.{decimal_injective}
@@ -7,13 +8,12 @@ use Rattle.std.proofs.lemmas.List.{get_or-drop, length-drop}
 use Rattle.std.proofs.lemmas.Option.{slice_get_within, get_or_from_slice_get, same_Some}
 use Rattle.restore_program.specs.declared.words.Settings.{Settings}
 use Rattle.restore_program.specs.declared.words.Settings.TheVariants as settings
-use Rattle.restore_program.specs.declared.words.WordRefusal.{WordRefusal}
-use Rattle.restore_program.specs.declared.words.WordRefusal.TheVariants as refusals
-use Rattle.restore_program.specs.Words.{CommandRule, Gives, GivesAt, IsBad, IsBadAt, IsBadNumber, IsCommand, IsFirstBad, IsFor, IsGiven, IsGivenRight, IsNumber, IsPrint, IsRestore, IsShaped, KeyRule, Simulates, Takes, cycles_rule, later, names, number, print_rule, restore_rule, seed_rule, simulate_rule, trace_rule}
+use Rattle.report.specs.declared.refusal.WordRefusal.{WordRefusal}
+use Rattle.report.specs.declared.refusal.WordRefusal.TheVariants as refusals
+use Rattle.restore_program.specs.Words.{CommandRule, command_rules, Gives, GivesAt, IsBad, IsBadAt, IsBadNumber, IsCommand, IsFirstBad, IsFor, IsGiven, IsGivenRight, IsNumber, IsPrint, IsShaped, KeyRule, Restores, Simulates, Takes, choice, cycles_rule, later, names, number, print_rule, restore_rule, seed_rule, simulate_rule, trace_rule}
 use Rattle.restore_program.specs.WordMeaning.{Means}
-use Rattle.restore_program.proofs.CommandWords.{print_or_restore}
 use Rattle.restore_program.proofs.GivenValues.{same_gift}
-use Rattle.restore_program.proofs.CommandShapes.{print_command, print_or_simulate, restore_command, restore_or_simulate, simulate_command}
+use Rattle.restore_program.proofs.CommandShapes.{one_command, print_is_one, print_or_restore, print_or_simulate, print_shape, restore_is_one, restore_or_simulate, shaped_command, simulate_is_one}
 
 -- ---- a key is given in one place
 
@@ -67,6 +67,7 @@ one_number rule words key least most n m right takes fits (place, value, gives, 
 not_bad : (takes : Takes) (value : List ℕ) (n : ℕ) → IsNumber takes value n → ¬ IsBad takes value
 not_bad (number least most) value n is bad = bad n is
 not_bad names value n is bad = bad
+not_bad choice value n is bad = bad
 
 pub good_number : (rule : CommandRule) (words : List (List ℕ)) (key : KeyRule) (n place : ℕ) (value : List ℕ) → IsGivenRight (later rule words) key → IsGiven rule words key n → GivesAt rule words place key value → ¬ IsBad key.takes value
 good_number rule words key n place value right (next, more, gives, is) here bad =
@@ -81,21 +82,50 @@ same_first rule words place next first second =
     (λ (apart : (place < next) ⊎ (next < place)). ⊎_elim (λ (less : place < next). absurd (second.1 place less first.0)) (λ (less : next < place). absurd (first.1 next less second.0)) apart)
     (cases_order place next)
 
--- only a `simulate` has numbers
-pub bad_simulate : (words : List (List ℕ)) (place : ℕ) → IsBadNumber words place → IsShaped simulate_rule words × IsFirstBad simulate_rule words place
-bad_simulate words place (zero, rule, h, e, both) = absurd (no_keys words place (subst (λ r. IsShaped r words × IsFirstBad r words place) (sym e) both).1.0)
-  where
-    no_keys : (words : List (List ℕ)) (place : ℕ) → ¬ IsBadAt restore_rule words place
-    no_keys words place bad = let few : bad.0 < 0 = bad.2 in omega arith
-bad_simulate words place (suc zero, rule, h, e, both) = subst (λ r. IsShaped r words × IsFirstBad r words place) (sym e) both
-bad_simulate words place (suc (suc zero), rule, h, e, both) = absurd (no_keys words place (subst (λ r. IsShaped r words × IsFirstBad r words place) (sym e) both).1.0)
-  where
-    no_keys : (words : List (List ℕ)) (place : ℕ) → ¬ IsBadAt print_rule words place
-    no_keys words place bad = let few : bad.0 < 0 = bad.2 in omega arith
-bad_simulate words place (suc (suc (suc k)), rule, h, e, both) = absurd (omega arith)
+-- the first bad number of words with the shape of this command
+pub bad_of : (rule : CommandRule) (words : List (List ℕ)) (place : ℕ) → Contains command_rules rule → IsShaped rule words → IsBadNumber words place → IsFirstBad rule words place
+bad_of rule words place is shaped (k, other, h, e, (again, first)) = subst (λ r. IsFirstBad r words place) (one_command other rule words (k, h, e) is again shaped) first
 
 pub bad_command : (words : List (List ℕ)) (place : ℕ) → IsBadNumber words place → IsCommand words
-bad_command words place bad = simulate_command words (bad_simulate words place bad).0
+bad_command words place (k, rule, h, e, (shaped, first)) = (k, rule, h, e, shaped)
+
+pub one_bad : (words : List (List ℕ)) (place next : ℕ) → IsBadNumber words place → IsBadNumber words next → place ≡ next
+one_bad words place next (k, rule, h, e, (shaped, first)) other = same_first rule words place next first (bad_of rule words next (k, h, e) shaped other)
+
+-- `restore` and `print` have no numbers
+restore_never_bad : (words : List (List ℕ)) (place : ℕ) → ¬ IsBadAt restore_rule words place
+restore_never_bad words place (zero, key, h, e, (value, gives, bad)) = subst (λ k. IsBad k.takes value) (sym e) bad
+restore_never_bad words place (suc k, key, h, e, more) = absurd (omega arith)
+
+print_never_bad : (words : List (List ℕ)) (place : ℕ) → ¬ IsBadAt print_rule words place
+print_never_bad words place bad = let few : bad.0 < 0 = bad.2 in omega arith
+
+pub restore_or_bad : (words : List (List ℕ)) (place : ℕ) → IsShaped restore_rule words → ¬ IsBadNumber words place
+restore_or_bad words place shaped bad = restore_never_bad words place (bad_of restore_rule words place restore_is_one shaped bad).0
+
+pub print_or_bad : (words : List (List ℕ)) (place : ℕ) → IsPrint words → ¬ IsBadNumber words place
+print_or_bad words place print bad = print_never_bad words place (bad_of print_rule words place print_is_one (print_shape words print) bad).0
+
+-- so that a bad number is one of a `simulate`
+pub bad_simulate : (words : List (List ℕ)) (place : ℕ) → IsBadNumber words place → IsShaped simulate_rule words × IsFirstBad simulate_rule words place
+bad_simulate words place (zero, rule, h, e, both) = absurd (restore_never_bad words place (subst (λ r. IsFirstBad r words place) (sym e) both.1).0)
+bad_simulate words place (suc zero, rule, h, e, both) = subst (λ r. IsShaped r words × IsFirstBad r words place) (sym e) both
+bad_simulate words place (suc (suc zero), rule, h, e, both) = absurd (print_never_bad words place (subst (λ r. IsFirstBad r words place) (sym e) both.1).0)
+bad_simulate words place (suc (suc (suc k)), rule, h, e, both) = absurd (omega arith)
+
+-- ---- the key of `restore`
+
+same_choice : (b d : Bool) → (IsTrue b → IsTrue d) → (IsTrue d → IsTrue b) → b ≡ d
+same_choice true d there back = sym (there refl)
+same_choice false true there back = back refl
+same_choice false false there back = refl
+
+pub one_restore : (words : List (List ℕ)) (a b c d : List ℕ) (all other : Bool) → Restores words a b all → Restores words c d other → (a ≡ c) × (b ≡ d) × (all ≡ other)
+one_restore words a b c d all other is again = (
+  same_Some a c (sym is.is_netlist ∙ again.is_netlist),
+  same_Some b d (sym is.is_dump ∙ again.is_dump),
+  same_choice all other (λ t. again.has_all.1 (is.has_all.0 t)) (λ t. is.has_all.1 (again.has_all.0 t)),
+)
 
 -- ---- the keys of `simulate`
 
@@ -126,38 +156,65 @@ one_simulation words netlist more cycles seed trace cycles' seed' trace' is othe
   same_place simulate_rule words trace_rule trace trace' is.has_trace.0 other.has_trace.0 (given_trace words is.shaped) is.has_trace.1 other.has_trace.1,
 )
 
-same_settings : (cycles seed trace cycles' seed' trace' : ℕ) → (cycles ≡ cycles') × (seed ≡ seed') × (trace ≡ trace') → ◌≡◌ {A = Result Settings WordRefusal} (Ok (settings.Simulate cycles seed trace)) (Ok (settings.Simulate cycles' seed' trace'))
-same_settings cycles seed trace cycles' seed' trace' e = let a = e.0 in let b = e.1 in let d = e.2 in cc
+-- ---- the settings of words
+
+abbrev settings_rule : Settings → CommandRule
+settings_rule (settings.Restore all) = restore_rule
+settings_rule (settings.Simulate cycles seed trace) = simulate_rule
+settings_rule settings.Print = print_rule
+
+settings_is_one : (s : Settings) → Contains command_rules (settings_rule s)
+settings_is_one (settings.Restore all) = restore_is_one
+settings_is_one (settings.Simulate cycles seed trace) = simulate_is_one
+settings_is_one settings.Print = print_is_one
+
+settings_shape : (words : List (List ℕ)) (s : Settings) → Means words (Ok s) → IsShaped (settings_rule s) words
+settings_shape words (settings.Restore all) is = is.2.shaped
+settings_shape words (settings.Simulate cycles seed trace) is = is.1.shaped
+settings_shape words settings.Print is = print_shape words is
+
+settings_command : (words : List (List ℕ)) (s : Settings) → Means words (Ok s) → IsCommand words
+settings_command words s is = shaped_command (settings_rule s) words (settings_is_one s) (settings_shape words s is)
+
+-- and no number of them is bad
+never_bad : (words : List (List ℕ)) (s : Settings) (place : ℕ) → Means words (Ok s) → ¬ IsBadAt (settings_rule s) words place
+never_bad words (settings.Restore all) place is = restore_never_bad words place
+never_bad words (settings.Simulate cycles seed trace) place is = simulate_or_bad words is.0 cycles seed trace place is.1
+never_bad words settings.Print place is = print_never_bad words place
+
+good_settings : (words : List (List ℕ)) (s : Settings) (place : ℕ) → Means words (Ok s) → ¬ IsBadNumber words place
+good_settings words s place is bad = never_bad words s place is (bad_of (settings_rule s) words place (settings_is_one s) (settings_shape words s is) bad).0
+
+same_restore : (all other : Bool) → all ≡ other → settings.Restore all ≡ settings.Restore other
+same_restore all other e = ap settings.Restore e
+
+same_simulate : (cycles seed trace cycles' seed' trace' : ℕ) → (cycles ≡ cycles') × (seed ≡ seed') × (trace ≡ trace') → settings.Simulate cycles seed trace ≡ settings.Simulate cycles' seed' trace'
+same_simulate cycles seed trace cycles' seed' trace' e = let a = e.0 in let b = e.1 in let d = e.2 in cc
+
+one_settings : (words : List (List ℕ)) (s t : Settings) → Means words (Ok s) → Means words (Ok t) → s ≡ t
+one_settings words (settings.Restore all) (settings.Restore more) is other = same_restore all more (one_restore words is.0 is.1 other.0 other.1 all more is.2 other.2).2
+one_settings words (settings.Simulate cycles seed trace) (settings.Simulate cycles' seed' trace') is other =
+    same_simulate cycles seed trace cycles' seed' trace' (one_simulation words is.0 other.0 cycles seed trace cycles' seed' trace' is.1 other.1)
+one_settings words settings.Print settings.Print is other = refl
+one_settings words (settings.Restore all) (settings.Simulate cycles seed trace) is other = absurd (restore_or_simulate words is.2.shaped other.1.shaped)
+one_settings words (settings.Restore all) settings.Print is other = absurd (print_or_restore words other is.2.shaped)
+one_settings words (settings.Simulate cycles seed trace) (settings.Restore all) is other = absurd (restore_or_simulate words other.2.shaped is.1.shaped)
+one_settings words (settings.Simulate cycles seed trace) settings.Print is other = absurd (print_or_simulate words other is.1.shaped)
+one_settings words settings.Print (settings.Restore all) is other = absurd (print_or_restore words is other.2.shaped)
+one_settings words settings.Print (settings.Simulate cycles seed trace) is other = absurd (print_or_simulate words is other.1.shaped)
 
 -- words have one meaning at most
 pub one_meaning : (words : List (List ℕ)) (r s : Result Settings WordRefusal) → Means words r → Means words s → r ≡ s
-one_meaning words (Ok settings.Restore) (Ok settings.Restore) is other = refl
-one_meaning words (Ok settings.Restore) (Ok (settings.Simulate cycles seed trace)) is other = absurd (restore_or_simulate words is other.1.shaped)
-one_meaning words (Ok settings.Restore) (Ok settings.Print) is other = absurd (print_or_restore words other is)
-one_meaning words (Ok settings.Restore) (Err refusals.Usage) is other = absurd (other (restore_command words is))
-one_meaning words (Ok settings.Restore) (Err (refusals.Number place)) is other = absurd (restore_or_simulate words is (bad_simulate words place other).0)
-one_meaning words (Ok (settings.Simulate cycles seed trace)) (Ok settings.Restore) is other = absurd (restore_or_simulate words other is.1.shaped)
-one_meaning words (Ok (settings.Simulate cycles seed trace)) (Ok (settings.Simulate cycles' seed' trace')) is other =
-    same_settings cycles seed trace cycles' seed' trace' (one_simulation words is.0 other.0 cycles seed trace cycles' seed' trace' is.1 other.1)
-one_meaning words (Ok (settings.Simulate cycles seed trace)) (Ok settings.Print) is other = absurd (print_or_simulate words other is.1.shaped)
-one_meaning words (Ok (settings.Simulate cycles seed trace)) (Err refusals.Usage) is other = absurd (other (simulate_command words is.1.shaped))
-one_meaning words (Ok (settings.Simulate cycles seed trace)) (Err (refusals.Number place)) is other = absurd (simulate_or_bad words is.0 cycles seed trace place is.1 (bad_simulate words place other).1.0)
-one_meaning words (Ok settings.Print) (Ok settings.Restore) is other = absurd (print_or_restore words is other)
-one_meaning words (Ok settings.Print) (Ok (settings.Simulate cycles seed trace)) is other = absurd (print_or_simulate words is other.1.shaped)
-one_meaning words (Ok settings.Print) (Ok settings.Print) is other = refl
-one_meaning words (Ok settings.Print) (Err refusals.Usage) is other = absurd (other (print_command words is))
-one_meaning words (Ok settings.Print) (Err (refusals.Number place)) is other = absurd (print_or_simulate words is (bad_simulate words place other).0)
-one_meaning words (Err refusals.Usage) (Ok settings.Restore) is other = absurd (is (restore_command words other))
-one_meaning words (Err refusals.Usage) (Ok (settings.Simulate cycles seed trace)) is other = absurd (is (simulate_command words other.1.shaped))
-one_meaning words (Err refusals.Usage) (Ok settings.Print) is other = absurd (is (print_command words other))
+one_meaning words (Ok s) (Ok t) is other = ap Ok (one_settings words s t is other)
+one_meaning words (Ok s) (Err refusals.Usage) is other = absurd (other (settings_command words s is))
+one_meaning words (Ok s) (Err (refusals.Number place)) is other = absurd (good_settings words s place is other)
+one_meaning words (Err refusals.Usage) (Ok s) is other = absurd (is (settings_command words s other))
 one_meaning words (Err refusals.Usage) (Err refusals.Usage) is other = refl
 one_meaning words (Err refusals.Usage) (Err (refusals.Number place)) is other = absurd (is (bad_command words place other))
-one_meaning words (Err (refusals.Number place)) (Ok settings.Restore) is other = absurd (restore_or_simulate words other (bad_simulate words place is).0)
-one_meaning words (Err (refusals.Number place)) (Ok (settings.Simulate cycles seed trace)) is other = absurd (simulate_or_bad words other.0 cycles seed trace place other.1 (bad_simulate words place is).1.0)
-one_meaning words (Err (refusals.Number place)) (Ok settings.Print) is other = absurd (print_or_simulate words other (bad_simulate words place is).0)
+one_meaning words (Err (refusals.Number place)) (Ok s) is other = absurd (good_settings words s place other is)
 one_meaning words (Err (refusals.Number place)) (Err refusals.Usage) is other = absurd (other (bad_command words place is))
 one_meaning words (Err (refusals.Number place)) (Err (refusals.Number next)) is other =
-    ap (λ p. Err (refusals.Number p)) (same_first simulate_rule words place next (bad_simulate words place is).1 (bad_simulate words next other).1)
+    ap (λ p. Err (refusals.Number p)) (one_bad words place next is other)
 
 -- ---- each answer has its cause
 
@@ -167,7 +224,7 @@ ComesWith r s P = (r ≡ s → P) × (P → r ≡ s)
 -- what the contract says of an answer
 abbrev pub IsExact : List (List ℕ) → Result Settings WordRefusal → Type 0
 IsExact words r = record {
-  restore : ComesWith r (Ok settings.Restore) (IsRestore words);
+  restore : (all : Bool) → ComesWith r (Ok (settings.Restore all)) ((netlist dump : List ℕ) × Restores words netlist dump all);
   simulate : (cycles seed trace : ℕ) → ComesWith r (Ok (settings.Simulate cycles seed trace)) ((netlist : List ℕ) × Simulates words netlist cycles seed trace);
   print : ComesWith r (Ok settings.Print) (IsPrint words);
   usage : ComesWith r (Err refusals.Usage) (¬ IsCommand words);
@@ -179,7 +236,7 @@ exactly words r s is = (λ e. subst (Means words) e is, λ other. one_meaning wo
 
 pub exact_answer : (words : List (List ℕ)) (r : Result Settings WordRefusal) → Means words r → IsExact words r
 exact_answer words r is = record {
-  restore = exactly words r (Ok settings.Restore) is;
+  restore = λ all. exactly words r (Ok (settings.Restore all)) is;
   simulate = λ cycles seed trace. exactly words r (Ok (settings.Simulate cycles seed trace)) is;
   print = exactly words r (Ok settings.Print) is;
   usage = exactly words r (Err refusals.Usage) is;

@@ -12,7 +12,7 @@ use Rattle.dump_reader.specs.Grammar.{block_count}
 use Rattle.dump_reader.specs.Print.{printed}
 use Rattle.restore_program.specs.declared.status.Status.{Status}
 use Rattle.restore_program.specs.declared.status.Status.TheVariants as statuses
-use Rattle.restore_program.specs.Reply.{unknown_trace_line, trace_twice_line}
+use Rattle.report.specs.Refusals.{unknown_trace_line, trace_twice_line}
 use Rattle.restore_program.specs.Tracing.{AreNamed, IsTraceText, IsTwiceFirst, IsUnknownFirst, OnTrace, StandsNext, many_cells, name_twice, names_in, traced, unknown_name}
 use Rattle.restore_program.proofs.OneRun.{one_trace}
 

@@ -1,11 +1,12 @@
 -- What is found behind the files, by its place among all words.
-use Rattle.std.proofs.Common.{◌≡◌, ◌<◌, ◌+◌, ℕ, List, [], ◌-◌, length, drop, get_or, Option, Some, None, refl, sym, ap, subst, ◌∙◌, inl, inr, lit<, arith, rules}
-use Rattle.std.specs.Prelude.{All, Any, IsSome}
+use Rattle.std.proofs.Common.{◌≡◌, ◌<◌, ◌+◌, ℕ, Bool, List, [], ◌-◌, length, drop, get_or, Option, Some, None, refl, sym, ap, subst, ◌∙◌, inl, inr, lit<, arith, rules}
+use Rattle.std.specs.Prelude.{All, Any, IsSome, IsTrue, codes, ◌↔◌}
 use Rattle.std.specs.List.{slice_get}
 use Rattle.std.proofs.lemmas.List.{length-drop}
 use Rattle.std.proofs.lemmas.Option.{slice_get_within, slice_get-get_or}
-use Rattle.restore_program.specs.Words.{CommandRule, Gives, GivesAt, IsBad, IsBadNumber, IsFirstBad, IsFor, IsGiven, IsNumber, IsShaped, KeyRule, Simulates, cycles_rule, later, number, seed_rule, simulate_rule, trace_rule}
+use Rattle.restore_program.specs.Words.{CommandRule, Gives, GivesAt, IsBad, IsBadNumber, IsChosen, IsFirstBad, IsFor, IsGiven, IsNumber, IsShaped, KeyRule, Restores, Simulates, all_rule, cycles_rule, later, number, restore_rule, seed_rule, simulate_rule, trace_rule}
 use Rattle.restore_program.specs.WordRules.{FindsNumber, FirstPlace, GivesNumber, IsBadFor}
+use Rattle.restore_program.proofs.OneMeaning.{read_behind}
 use Rattle.restore_program.proofs.WordPlaces.{not_any, slice_get-drop}
 
 -- a word behind the files
@@ -83,3 +84,35 @@ pub simulates : (words : List (List ℕ)) (cycles seed trace : ℕ) → IsShaped
 simulates words cycles seed trace shaped has_cycles has_seed has_trace =
     let there : 1 < length words = shaped.files in
     (get_or words 1 [], record { shaped = shaped; is_netlist = slice_get-get_or words 1 [] there; has_cycles = has_cycles; has_seed = has_seed; has_trace = has_trace })
+
+-- the key is given `yes` behind the files, or it is not
+chosen_behind : (rule : CommandRule) (words rest : List (List ℕ)) (key : KeyRule) (b : Bool) → rest ≡ later rule words → (IsTrue b ↔ Any (λ word. Gives word key.name (codes "yes")) rest) → IsChosen rule words key b
+chosen_behind rule words rest key b is test = (
+  λ t. there (subst (Any (λ word. Gives word key.name (codes "yes"))) is (test.0 t)),
+  λ (place, gift). test.1 (subst (Any (λ word. Gives word key.name (codes "yes"))) (sym is) (back place gift)),
+)
+  where
+    there : Any (λ word. Gives word key.name (codes "yes")) (later rule words) → (place : ℕ) × GivesAt rule words place key (codes "yes")
+    there (k, word, h, e, gives) = (1 + rule.files + k, gift_behind rule words k word (codes "yes") key (slice_get-get_or (later rule words) k word h ∙ ap Some e) gives)
+
+    back : (place : ℕ) → GivesAt rule words place key (codes "yes") → Any (λ word. Gives word key.name (codes "yes")) (later rule words)
+    back place gift =
+        let within : place < length words = slice_get_within words place gift.word gift.at in
+        let behind : rule.files < place = gift.behind in
+        let inside : place - (1 + rule.files) < length (later rule words) = rw length-drop (omega arith) in
+        (place - (1 + rule.files), gift.word, inside, read_behind rule words place gift.word gift.word gift.behind gift.at, gift.gives)
+
+pub restores : (words rest : List (List ℕ)) (all : Bool) → IsShaped restore_rule words → rest ≡ later restore_rule words → (IsTrue all ↔ Any (λ word. Gives word all_rule.name (codes "yes")) rest)
+    → (netlist dump : List ℕ) × Restores words netlist dump all
+restores words rest all shaped is test =
+    let there : 2 < length words = shaped.files in
+    let before : 1 < length words = omega arith in (
+      get_or words 1 [],
+      get_or words 2 [],
+      record {
+        shaped = shaped;
+        is_netlist = slice_get-get_or words 1 [] before;
+        is_dump = slice_get-get_or words 2 [] there;
+        has_all = chosen_behind restore_rule words rest all_rule all is test;
+      },
+    )

@@ -9,9 +9,8 @@ use Rattle.std.proofs.lemmas.List.Elements.{Contains-push_cases, Contains-append
 use Rattle.std.proofs.lemmas.List.Quantifiers.{all_pairs_push}
 use Rattle.sr_model.specs.declared.cells.Sig.{Sig}
 use Rattle.netlist.specs.Circuit.{Circuit, IsCircuit}
-use Rattle.restore_program.specs.Tracing.{AreNamed, StandsNext, IsUnknownFirst, IsTwiceFirst}
-use Rattle.restore_program.specs.TraceRefusals.{IsTraceRefusal, IsUnknownOf, IsTwiceOf}
-use Rattle.restore_program.specs.declared.trace.TraceRefusal.{TraceRefusal}
+use Rattle.restore_program.specs.Tracing.{AreNamed, StandsNext}
+use Rattle.restore_program.specs.TraceRefusals.{IsItem, IsTraceRefusal}
 use Rattle.restore_program.specs.declared.trace.TraceRefusal.TheVariants as traces
 
 -- a list at one of its places
@@ -36,11 +35,13 @@ module _ (c : Circuit) (is : IsCircuit c) (names : List (List ℕ)) (n : ℕ) (n
     whole = parted names n name within ∙ ap (λ x. take n names ++ x ∷ drop (n + 1) names) (sym at);
   }
 
+  -- its item
+  abbrev item-is : (item : ℕ) → item ≡ length sigs → IsItem c names name item
+  item-is item is = record { before = take n names; next = next; place = is ∙ size c (take n names) sigs named }
+
   -- no signal has it
-  pub unknown-first : ((r : TraceRefusal) → (Contains c.names name → ⊥) → IsUnknownOf name r → IsTraceRefusal c names r)
-  unknown-first (traces.Unknown copy) none same = subst (IsUnknownFirst c names) (sym same) (take n names, next, none)
-  unknown-first (traces.Twice copy) none same = absurd same
-  unknown-first traces.NoMemory none same = tt
+  pub unknown-first : (item : ℕ) → item ≡ length sigs → (Contains c.names name → ⊥) → IsTraceRefusal c names (traces.Unknown item)
+  unknown-first item is none = (name, item-is item is, none)
 
   module _ (s : Sig) (has : slice_get c.names s.0 ≡ Some name) where
     -- its signal stands among those before it
@@ -49,10 +50,8 @@ module _ (c : Circuit) (is : IsCircuit c) (names : List (List ℕ)) (n : ℕ) (n
         let there : k < length (take n names) = subst (λ m. k < m) (size c (take n names) sigs named) h in
         (k, there, same_Some _ _ (sym (name-at c (take n names) sigs named k s name h) ∙ ap (λ (x : Sig). slice_get c.names x.0) e ∙ has))
 
-    pub twice-first : Contains sigs s → (r : TraceRefusal) → IsTwiceOf name r → IsTraceRefusal c names r
-    twice-first h (traces.Twice copy) same = subst (IsTwiceFirst c names) (sym same) (take n names, next, its-name h)
-    twice-first h (traces.Unknown copy) same = absurd same
-    twice-first h traces.NoMemory same = tt
+    pub twice-first : (item : ℕ) → item ≡ length sigs → Contains sigs s → IsTraceRefusal c names (traces.Twice item)
+    twice-first item is h = (name, item-is item is, its-name h)
 
     -- or it is one more
     pub named-more : (Contains sigs s → ⊥) → (new : List Sig) → new ≡ sigs ++ s ∷ [] → AreNamed c (take (n + 1) names) new

@@ -1,7 +1,13 @@
 -- The signals of a list of names: each is one of the netlist, and none stands twice.
-use Rattle.std.proofs.Common.{ℕ, ◌≡◌, ◌<◌, List, [], length, arith, get_or, sym, ap, subst, ◌∙◌}
+use Rattle.std.proofs.Common.{ℕ, ◌≡◌, ◌≢◌, ◌<◌, ◌≤◌, true, List, [], length, map, arith, get_or, sym, ap, subst, ◌∙◌}
 use Rattle.std.specs.Prelude.{All}
-use Rattle.std.specs.List.{AllPairs, slice_get}
+use Rattle.std.specs.List.{AllPairs, list_any, slice_get}
+use Rattle.std.proofs.Math.Dec.{eqb}
+use Rattle.std.proofs.lemmas.Bool.{eqb-true}
+use Rattle.std.proofs.lemmas.Bool.Decides.{Decides-eqb}
+use Rattle.std.proofs.lemmas.Map.Made.{IsDistinct-from_AllPairs}
+use Rattle.std.proofs.lemmas.Map.Steps.{length-le_from_distinct_below}
+use Rattle.std.proofs.lemmas.Map.Views.{Contains-from_any}
 use Rattle.std.proofs.lemmas.List.{get_or-map, length-map}
 use Rattle.std.proofs.lemmas.Option.{same_Some, slice_get_within}
 use Rattle.sr_model.specs.declared.cells.Sig.{Sig}
@@ -26,3 +32,32 @@ pub rows_within : (v : Valuation) (cycles count : ℕ) (sigs : List Sig) → All
 rows_within v cycles count sigs within k d h =
     let at : k < length sigs = subst (λ n. k < n) (length-map sigs (traced_row v cycles)) h in
     subst (λ (row : Row). row.sig.0 < count) (sym (get_or-map (traced_row v cycles) sigs k d.sig d at)) (within k d.sig at)
+
+-- they are no more than the netlist has
+pub signals_few : (c : Circuit) → IsCircuit c → (names : List (List ℕ)) (sigs : List Sig) → AreNamed c names sigs → length sigs ≤ 65536
+signals_few c circuit names sigs named = omega (arith, circuit.few_signals, few, length-map sigs number)
+  where
+    number : Sig → ℕ
+    number s = s.0
+
+    numbers : List ℕ
+    numbers = map number sigs
+
+    one : (k : ℕ) (d : Sig) → k < length numbers → get_or numbers k d.0 ≡ (get_or sigs k d).0
+    one k d h = get_or-map number sigs k d d.0 (subst (λ n. k < n) (length-map sigs number) h)
+
+    pairs : AllPairs (λ a b. a ≢ b) numbers
+    pairs i j d less h same =
+        let sig : Sig = record { 0 = d } in
+        signals_once c names sigs named i j sig less (subst (λ n. j < n) (length-map sigs number) h)
+        (ap (λ n. record { 0 = n }) (sym (one i sig (omega (arith, less, h))) ∙ same ∙ one j sig h))
+
+    below : (q : ℕ) → list_any (eqb q) numbers ≡ true → q < length c.drivers
+    below q found =
+        let is = Contains-from_any eqb-true q numbers found in
+        let sig : Sig = record { 0 = q } in
+        let within : is.0 < length sigs = subst (λ n. is.0 < n) (length-map sigs number) is.1 in
+        subst (λ n. n < length c.drivers) (sym (one is.0 sig is.1) ∙ is.2) (signals_within c circuit names sigs named is.0 sig within)
+
+    few : length numbers ≤ length c.drivers
+    few = length-le_from_distinct_below numbers (length c.drivers) (IsDistinct-from_AllPairs {eq = eqb} Decides-eqb numbers pairs) below

@@ -1,14 +1,13 @@
 -- What a run is to write, and how it is to end, by the words and the bytes that the inputs hold.
 use Rattle.std.specs.Prelude.{ℕ, ◌≡◌, ◌≢◌, ◌<◌, ◌≤◌, ◌⊎◌, ⊤, Bool, List, length, Option, Some, IfSome}
-use Rattle.std.specs.List.{slice_get}
 use Rattle.sr_model.specs.declared.cells.Cell.{Cell}
 use Rattle.sr_model.specs.declared.cells.Lit.{Lit}
 use Rattle.sr_model.specs.Declaration.{Declaration}
-use Rattle.sr_model.specs.Closure.{HasBoth, SameLits, passing}
-use Rattle.sr_model.specs.Dump.{Known}
+use Rattle.sr_model.specs.Closure.{HasBoth, IsClash, SameLits, passing}
+use Rattle.sr_model.specs.Dump.{Known, dump_has}
 use Rattle.sr_outside.specs.Told.{Held, IsSteady}
 use Rattle.sr_outside.specs.declared.whole.ReadRefusal.{ReadRefusal}
-use Rattle.sr_outside.specs.declared.whole.ReadRefusal.TheVariants as refusals
+use Rattle.sr_outside.specs.declared.whole.ReadRefusal.TheVariants as reads
 use Rattle.bench_reader.specs.declared.reader.BenchRefusal.{BenchRefusal}
 use Rattle.bench_reader.specs.declared.reader.BenchRefusal.TheVariants as bench
 use Rattle.bench_reader.specs.Grammar as grammar
@@ -23,15 +22,22 @@ use Rattle.dump_reader.specs.declared.refusal.DumpRefusal.TheVariants as dumps
 use Rattle.dump_reader.specs.Recording.{Recording}
 use Rattle.dump_reader.specs.Grammar as dump_grammar
 use Rattle.dump_reader.specs.Refusal as dump_refusal
-use Rattle.restore_program.specs.declared.reply.Part.{Part}
-use Rattle.restore_program.specs.declared.reply.Part.TheVariants as parts
+use Rattle.report.specs.declared.refusal.Part.{Part}
+use Rattle.report.specs.declared.refusal.Part.TheVariants as parts
+use Rattle.report.specs.declared.refusal.Refusal.{Refusal}
+use Rattle.report.specs.declared.refusal.Refusal.TheVariants as refusals
+use Rattle.report.specs.declared.refusal.WordRefusal.TheVariants as word_refusals
+use Rattle.report.specs.Clash.{clash_line}
+use Rattle.report.specs.InputRefusals.{bench_line, dump_line, fault_line, net_line, no_memory_line, too_long_line}
+use Rattle.report.specs.Refusals.{word_line}
+use Rattle.report.specs.Table.{known_count, table_text}
 use Rattle.restore_program.specs.declared.reply.Reply.{Reply}
 use Rattle.restore_program.specs.declared.reply.Reply.TheVariants as replies
 use Rattle.restore_program.specs.declared.status.Status.{Status}
 use Rattle.restore_program.specs.declared.status.Status.TheVariants as statuses
-use Rattle.restore_program.specs.Reply.{usage_line, number_line, too_long_line, bench_line, net_line, dump_line, clash_line, fault_line, no_memory_line, text_of, status_of}
-use Rattle.restore_program.specs.TableText.{table_text}
-use Rattle.restore_program.specs.Words.{Restores, Prints, Simulates, Gives, GivesAt, simulate_rule, trace_rule, IsBadNumber, IsCommand}
+use Rattle.restore_program.specs.Reply.{text_of, status_of}
+use Rattle.restore_program.specs.Requests.{Request, Asks, restoration, simulation, printing}
+use Rattle.restore_program.specs.Words.{IsBadNumber, IsCommand}
 use Rattle.restore_program.specs.Tracing.{OnTrace}
 
 -- the most bytes of a netlist or a dump
@@ -71,13 +77,21 @@ IsDumpText c bytes d = (length bytes ≤ most_bytes) × SpellsDump c bytes d
 abbrev pub KnownFrom : Circuit → Recording → Lit → Type 0
 KnownFrom c d = Known (unrolled_over c d.cycles) d.rows
 
--- on a dump of a netlist
-pub data OnDump (c : Circuit) (bytes : List ℕ) : List ℕ → Status → Type 0 where
-  dump_too_long : most_bytes < length bytes → OnDump c bytes (too_long_line parts.Dump) statuses.Dump
-  bad_dump : (r : DumpRefusal) → length bytes ≤ most_bytes → r ≢ dumps.NoMemory → IsDumpRefusal c bytes r → OnDump c bytes (dump_line r) statuses.Dump
-  clash : (d : Recording) (cell : Cell) → IsDumpText c bytes d → HasBoth (KnownFrom c d) cell → OnDump c bytes clash_line statuses.Dump
+-- how many cells of flip-flops have a bit in a recording
+abbrev pub traced_count : Circuit → Recording → ℕ
+traced_count c d = known_count c d.cycles (dump_has d.rows)
+
+-- The cell of a recording's contradiction: the least one that has both literals in the first level that has such a cell.
+abbrev pub IsClashOf : Circuit → Recording → Cell → Type 0
+IsClashOf c d cell = (level : ℕ) × IsClash (unrolled_over c d.cycles) (passing (dump_has d.rows)) cell level
+
+-- on a dump of a netlist, with the rows of all signals or of the flip-flops alone
+pub data OnDump (c : Circuit) (bytes : List ℕ) (all : Bool) : List ℕ → Status → Type 0 where
+  dump_too_long : most_bytes < length bytes → OnDump c bytes all (too_long_line parts.Dump) statuses.Dump
+  bad_dump : (r : DumpRefusal) → length bytes ≤ most_bytes → r ≢ dumps.NoMemory → IsDumpRefusal c bytes r → OnDump c bytes all (dump_line r) statuses.Dump
+  clash : (d : Recording) (cell : Cell) → IsDumpText c bytes d → IsClashOf c d cell → OnDump c bytes all (clash_line c cell) statuses.Contradiction
   table : (d : Recording) (known : Lit → Bool) → IsDumpText c bytes d → SameLits (passing known) (KnownFrom c d)
-      → ((cell : Cell) → HasBoth (passing known) cell → ⊥) → OnDump c bytes (table_text c d.cycles known) statuses.Done
+      → ((cell : Cell) → HasBoth (passing known) cell → ⊥) → OnDump c bytes all (table_text c d.cycles known (traced_count c d) all) statuses.Done
 
 -- ---- what the words ask for
 
@@ -90,43 +104,28 @@ abbrev pub OnRefused : Held → List ℕ → List ℕ → Status → Type 0
 OnRefused held name text status = (bytes : List ℕ) × (held name ≡ Some bytes) × RefusedNetlist bytes text status
 
 -- on this dump of a netlist
-abbrev pub DumpAnswer : Held → Circuit → List ℕ → List ℕ → Status → Type 0
-DumpAnswer held c dump text status = (bytes : List ℕ) × (held dump ≡ Some bytes) × OnDump c bytes text status
+abbrev pub DumpAnswer : Held → Circuit → List ℕ → Bool → List ℕ → Status → Type 0
+DumpAnswer held c dump all text status = (bytes : List ℕ) × (held dump ≡ Some bytes) × OnDump c bytes all text status
 
--- on words that ask for this netlist and this dump
-abbrev pub RestoreAnswer : Held → List ℕ → List ℕ → List ℕ → Status → Type 0
-RestoreAnswer held netlist dump text status = OnRefused held netlist text status ⊎ ((c : Circuit) × IsNetlistOf held netlist c × DumpAnswer held c dump text status)
+-- a netlist is refused, or this is so of it
+abbrev pub OnNetlist : Held → List ℕ → (Circuit → List ℕ → Status → Type 0) → List ℕ → Status → Type 0
+OnNetlist held netlist P text status = OnRefused held netlist text status ⊎ ((c : Circuit) × IsNetlistOf held netlist c × P c text status)
 
--- on words that ask for the text of this netlist
-abbrev pub PrintAnswer : Held → List ℕ → List ℕ → Status → Type 0
-PrintAnswer held netlist text status = OnRefused held netlist text status ⊎ ((c : Circuit) × IsNetlistOf held netlist c × (text ≡ bench_text c) × (status ≡ statuses.Done))
+-- a netlist's text
+abbrev pub OnPrint : Circuit → List ℕ → Status → Type 0
+OnPrint c text status = (text ≡ bench_text c) × (status ≡ statuses.Done)
 
--- on words that ask for a run of this netlist over so many cycles from a seed, and for a trace of the signals of this list
-abbrev pub SimulateAnswer : Held → List ℕ → ℕ → ℕ → List ℕ → List ℕ → Status → Type 0
-SimulateAnswer held netlist cycles seed list text status =
-    OnRefused held netlist text status ⊎ ((c : Circuit) × IsNetlistOf held netlist c × OnTrace c cycles seed list text status)
-
--- the key of the first bad number
-pub record IsBadKey (words : List (List ℕ)) (key : List ℕ) : Type 0 where
-  pub place : ℕ
-  pub bad : IsBadNumber words place
-  pub word : List ℕ
-  pub at : slice_get words place ≡ Some word
-  pub value : List ℕ
-  pub gives : Gives word key value
-
--- a run of this netlist is asked for, over so many cycles from this seed, and a trace of the signals of this list
-abbrev pub Traces : List (List ℕ) → List ℕ → ℕ → ℕ → List ℕ → Type 0
-Traces words netlist cycles seed list = (place : ℕ) × Simulates words netlist cycles seed place × GivesAt simulate_rule words place trace_rule list
+-- on what is asked for
+abbrev pub RequestAnswer : Held → Request → List ℕ → Status → Type 0
+RequestAnswer held (restoration netlist dump all) = OnNetlist held netlist (λ c. DumpAnswer held c dump all)
+RequestAnswer held (simulation netlist cycles seed list) = OnNetlist held netlist (λ c. OnTrace c cycles seed list)
+RequestAnswer held (printing netlist) = OnNetlist held netlist OnPrint
 
 -- on all words; there is none where an input that is come to is not held
 pub data Answer (words : List (List ℕ)) (held : Held) : List ℕ → Status → Type 0 where
-  usage : ¬ IsCommand words → Answer words held usage_line statuses.Words
-  bad_number : (key : List ℕ) → IsBadKey words key → Answer words held (number_line key) statuses.Words
-  simulate : (netlist list : List ℕ) (cycles seed : ℕ) (text : List ℕ) (status : Status) → Traces words netlist cycles seed list → SimulateAnswer held netlist cycles seed list text status
-      → Answer words held text status
-  restore : (netlist dump text : List ℕ) (status : Status) → Restores words netlist dump → RestoreAnswer held netlist dump text status → Answer words held text status
-  print : (netlist text : List ℕ) (status : Status) → Prints words netlist → PrintAnswer held netlist text status → Answer words held text status
+  usage : ¬ IsCommand words → Answer words held (word_line words word_refusals.Usage) statuses.Words
+  bad_number : (place : ℕ) → IsBadNumber words place → Answer words held (word_line words (word_refusals.Number place)) statuses.Words
+  asked : (request : Request) (text : List ℕ) (status : Status) → Asks words request → RequestAnswer held request text status → Answer words held text status
 
 -- ---- replies
 
@@ -137,53 +136,55 @@ IsPlain statuses.WriteFault = ⊥
 IsPlain statuses.NoMemory = ⊥
 IsPlain _ = ⊤
 
--- the reply's text and status are an answer, unless an input was not read or memory was refused
-abbrev pub Replies : (List ℕ → Status → Type 0) → Reply → Type 0
-Replies P reply = IsPlain (status_of reply) → P (text_of reply) (status_of reply)
+-- on these words, the reply's text and status are an answer, unless an input was not read or memory was refused
+abbrev pub Replies : List (List ℕ) → (List ℕ → Status → Type 0) → Reply → Type 0
+Replies words P reply = IsPlain (status_of reply) → P (text_of words reply) (status_of reply)
 
--- the reply is about the words
+-- the refusal is about the words
+abbrev pub IsWordsRefusal : Refusal → Type 0
+IsWordsRefusal (refusals.Words refusal) = ⊤
+IsWordsRefusal (refusals.TraceUnknown place item) = ⊤
+IsWordsRefusal (refusals.TraceTwice place item) = ⊤
+IsWordsRefusal _ = ⊥
+
 abbrev pub IsOfWords : Reply → Type 0
-IsOfWords replies.Usage = ⊤
-IsOfWords (replies.Number key) = ⊤
-IsOfWords (replies.Trace refusal) = ⊤
+IsOfWords (replies.Refused refusal) = IsWordsRefusal refusal
 IsOfWords _ = ⊥
 
 -- no input is started on these words
 abbrev pub AreRefused : List (List ℕ) → Type 0
 AreRefused words = ¬ IsCommand words ⊎ ((place : ℕ) × IsBadNumber words place)
 
+-- an input was not read
+abbrev pub IsFaultRefusal : Refusal → Type 0
+IsFaultRefusal (refusals.Fault part) = ⊤
+IsFaultRefusal _ = ⊥
+
 abbrev pub IsFault : Reply → Type 0
-IsFault (replies.Fault part) = ⊤
+IsFault (replies.Refused refusal) = IsFaultRefusal refusal
 IsFault _ = ⊥
 
 -- what is written of an input that was not read
-abbrev pub unread_reply : Part → ReadRefusal → Reply
-unread_reply part refusals.Fault = replies.Fault part
-unread_reply part refusals.TooLong = replies.TooLong part
-unread_reply part refusals.NoMemory = replies.NoMemory
-
--- what is written of the literals that are known over so many cycles: their table, or that some cell has both literals
-abbrev pub OnKnown : Circuit → ℕ → (Lit → Bool) → Reply → Type 0
-OnKnown c cycles known replies.Clash = (cell : Cell) × HasBoth (passing known) cell
-OnKnown c cycles known (replies.Text text) = ((cell : Cell) → HasBoth (passing known) cell → ⊥) × (text.items ≡ table_text c cycles known)
-OnKnown c cycles known replies.NoMemory = ⊤
-OnKnown c cycles known _ = ⊥
+abbrev pub unread_refusal : Part → ReadRefusal → Refusal
+unread_refusal part reads.Fault = refusals.Fault part
+unread_refusal part reads.TooLong = refusals.TooLong part
+unread_refusal part reads.NoMemory = refusals.NoMemory
 
 -- what the words ask for is answered
 abbrev pub ReplyAnswer : List (List ℕ) → Option Held → Reply → Type 0
-ReplyAnswer words told reply = IfSome told (λ held. Replies (Answer words held) reply)
+ReplyAnswer words told reply = IfSome told (λ held. Replies words (Answer words held) reply)
 
 -- ---- faults
 
--- the words ask for this netlist and for no dump
-abbrev pub AsksNetlist : List (List ℕ) → List ℕ → Type 0
-AsksNetlist words netlist = Prints words netlist ⊎ ((cycles seed trace : ℕ) × Simulates words netlist cycles seed trace)
+-- it is told that the files of what is asked for are held and that no call on them is to fail
+abbrev pub AreSteadyFor : Option Held → Option (List ℕ → Bool) → Request → Type 0
+AreSteadyFor told shaky (restoration netlist dump all) = IsSteady told shaky netlist × IsSteady told shaky dump
+AreSteadyFor told shaky (simulation netlist cycles seed list) = IsSteady told shaky netlist
+AreSteadyFor told shaky (printing netlist) = IsSteady told shaky netlist
 
--- it is told that the files that the words name are held and that no call on them is to fail
+-- and so of all that the words may ask for
 abbrev pub AreSteady : Option Held → Option (List ℕ → Bool) → List (List ℕ) → Type 0
-AreSteady told shaky words =
-    ((netlist dump : List ℕ) → Restores words netlist dump → IsSteady told shaky netlist × IsSteady told shaky dump)
-    × ((netlist : List ℕ) → AsksNetlist words netlist → IsSteady told shaky netlist)
+AreSteady told shaky words = (request : Request) → Asks words request → AreSteadyFor told shaky request
 
 -- the netlist of this name is held and accepted
 abbrev pub IsAcceptedNetlist : List ℕ → Held → Type 0
@@ -199,19 +200,26 @@ IsDumpFault told shaky dump parts.Netlist = ⊥
 IsDumpFault told shaky dump parts.Dump = ¬ IsSteady told shaky dump
 
 -- A fault can be one of this part: only where it is not told that no call on its name is to fail, and of the dump only where the netlist is accepted.
-abbrev pub IsFaultOf : Option Held → Option (List ℕ → Bool) → List ℕ → List ℕ → Part → Type 0
-IsFaultOf told shaky netlist dump parts.Netlist = ¬ IsSteady told shaky netlist
-IsFaultOf told shaky netlist dump parts.Dump = (¬ IsSteady told shaky dump) × IfSome told (IsAcceptedNetlist netlist)
+abbrev pub IsRestoreFault : Option Held → Option (List ℕ → Bool) → List ℕ → List ℕ → Part → Type 0
+IsRestoreFault told shaky netlist dump parts.Netlist = ¬ IsSteady told shaky netlist
+IsRestoreFault told shaky netlist dump parts.Dump = (¬ IsSteady told shaky dump) × IfSome told (IsAcceptedNetlist netlist)
 
--- on words that ask for a netlist, and for a dump or none
+-- on what is asked for
+abbrev pub IsRequestFault : Option Held → Option (List ℕ → Bool) → Request → Part → Type 0
+IsRequestFault told shaky (restoration netlist dump all) = IsRestoreFault told shaky netlist dump
+IsRequestFault told shaky (simulation netlist cycles seed list) = IsNetlistFault told shaky netlist
+IsRequestFault told shaky (printing netlist) = IsNetlistFault told shaky netlist
+
 abbrev pub IsWordsFault : List (List ℕ) → Option Held → Option (List ℕ → Bool) → Part → Type 0
-IsWordsFault words told shaky part =
-    ((netlist : List ℕ) × (dump : List ℕ) × Restores words netlist dump × IsFaultOf told shaky netlist dump part)
-    ⊎ ((netlist : List ℕ) × AsksNetlist words netlist × IsNetlistFault told shaky netlist part)
+IsWordsFault words told shaky part = (request : Request) × Asks words request × IsRequestFault told shaky request part
 
--- where the reply says that a part was not read, this holds of the part
+-- where the refusal says that a part was not read, this holds of the part
+abbrev pub OnFaultRefusal : (Part → Type 0) → Refusal → Type 0
+OnFaultRefusal P (refusals.Fault part) = P part
+OnFaultRefusal P _ = ⊤
+
 abbrev pub OnFault : (Part → Type 0) → Reply → Type 0
-OnFault P (replies.Fault part) = P part
+OnFault P (replies.Refused refusal) = OnFaultRefusal P refusal
 OnFault P _ = ⊤
 
 -- the text that is written with a status, by what the inputs tell

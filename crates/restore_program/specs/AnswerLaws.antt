@@ -1,23 +1,28 @@
 -- The laws of an answer, for all words and all that the inputs hold.
-use Rattle.std.specs.Prelude.{ℕ, ◌≡◌, ◌⊎◌, List}
+use Rattle.std.specs.Prelude.{ℕ, ◌≡◌, Bool, List}
+use Rattle.sr_model.specs.declared.cells.Cell.{Cell}
+use Rattle.sr_model.specs.declared.cells.Sig.{Sig}
+use Rattle.sr_model.specs.Closure.{HasBoth, IsWithin}
+use Rattle.sr_model.specs.Netlist.{Valuation, Has}
 use Rattle.sr_outside.specs.Told.{Held}
-use Rattle.netlist.specs.Circuit.{Circuit}
+use Rattle.netlist.specs.Circuit.{Circuit, IsCircuit}
 use Rattle.dump_reader.specs.Recording.{Recording}
+use Rattle.cycle_sim.specs.BitTable.{BitTable}
+use Rattle.cycle_sim.specs.Simulation.{IsSimulated, traced_rows}
 use Rattle.restore_program.specs.declared.status.Status.{Status}
 use Rattle.restore_program.specs.declared.status.Status.TheVariants as statuses
-use Rattle.restore_program.specs.Answer.{Answer}
-use Rattle.restore_program.specs.Reply.{clash_line}
-use Rattle.restore_program.specs.Sound.{Accepts, IsPrintable, IsTraceable}
+use Rattle.restore_program.specs.Answer.{Answer, KnownFrom}
+use Rattle.restore_program.specs.Sound.{Accepts, IsPrintable, IsTableOrClash, IsTraceable}
 
 -- there is one answer at most
 abbrev pub HasOneAnswer : Type 0
 HasOneAnswer = (words : List (List ℕ)) (held : Held) (text other : List ℕ) (status last : Status) → Answer words held text status → Answer words held other last → (text ≡ other) × (status ≡ last)
 
--- where a netlist and a dump are accepted, each answer is a table, or says that both literals of some cell follow
+-- where a netlist and a dump are accepted, each answer is a table or a contradiction
 abbrev pub AcceptedIsAnswered : Type 0
 AcceptedIsAnswered =
-    (words : List (List ℕ)) (held : Held) (c : Circuit) (d : Recording) → Accepts words held c d
-    → (text : List ℕ) (status : Status) → Answer words held text status → (status ≡ statuses.Done) ⊎ ((status ≡ statuses.Dump) × (text ≡ clash_line))
+    (words : List (List ℕ)) (held : Held) (c : Circuit) (d : Recording) (all : Bool) → Accepts words held c d all
+    → (text : List ℕ) (status : Status) → Answer words held text status → IsTableOrClash status
 
 -- where a netlist is accepted, its text is the answer to `print`
 abbrev pub PrintableIsPrinted : Type 0
@@ -26,3 +31,10 @@ PrintableIsPrinted = (words : List (List ℕ)) (held : Held) → IsPrintable wor
 -- where the trace of a run can be had, its text is the answer to `simulate`
 abbrev pub TraceableIsTraced : Type 0
 TraceableIsTraced = (words : List (List ℕ)) (held : Held) → IsTraceable words held → (text : List ℕ) (status : Status) → Answer words held text status → status ≡ statuses.Done
+
+-- what is known from the trace of a simulated execution are bits of the execution, and so is no contradiction
+abbrev pub TraceIsSimulated : Type 0
+TraceIsSimulated =
+    (c : Circuit) (stimulus : BitTable) (v : Valuation) (sigs : List Sig) → IsSimulated c stimulus v
+    → let trace : Recording = record { cycles = stimulus.count; rows = traced_rows v stimulus.count sigs } in
+    IsWithin (KnownFrom c trace) (Has v) × ((cell : Cell) → HasBoth (KnownFrom c trace) cell → ⊥)

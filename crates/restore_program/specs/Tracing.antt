@@ -11,7 +11,7 @@ use Rattle.cycle_sim.specs.Drawing.{AreDrawn}
 use Rattle.cycle_sim.specs.Simulation.{IsSimulated, traced_rows}
 use Rattle.restore_program.specs.declared.status.Status.{Status}
 use Rattle.restore_program.specs.declared.status.Status.TheVariants as statuses
-use Rattle.restore_program.specs.Reply.{unknown_trace_line, trace_twice_line, many_cells_line}
+use Rattle.report.specs.Refusals.{unknown_trace_line, trace_twice_line, many_cells_line}
 
 -- the names of a list, which commas part
 abbrev pub names_in : List ℕ → List (List ℕ)

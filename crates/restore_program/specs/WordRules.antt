@@ -5,11 +5,12 @@ use Rattle.restore_program.specs.declared.word_rules.Takes.{Takes as Taken}
 use Rattle.restore_program.specs.declared.word_rules.Takes.TheVariants as takes
 use Rattle.restore_program.specs.declared.word_rules.Key.{Key}
 use Rattle.restore_program.specs.declared.word_rules.Command.{Command}
-use Rattle.restore_program.specs.Words.{Takes, number, names, KeyRule, CommandRule, Gives, IsFor, IsNumber, IsBad}
+use Rattle.restore_program.specs.Words.{Takes, number, names, choice, KeyRule, CommandRule, Gives, IsFor, IsNumber, IsBad}
 
 abbrev pub taken_by : Taken → Takes
 taken_by (takes.Number least most) = number least most
 taken_by takes.Names = names
+taken_by takes.Choice = choice
 
 abbrev pub rule_of : Key → KeyRule
 rule_of key = record { name = key.name.now; required = key.required; takes = taken_by key.takes }

@@ -1,14 +1,15 @@
 -- What the words of the command line ask for.
-use Rattle.std.specs.Prelude.{ℕ, ◌≡◌, ◌≢◌, ◌+◌, ◌-◌, ◌^◌, ◌<◌, ◌≤◌, ◌==◌, ⊤, Bool, true, List, [], ◌∷◌, ◌++◌, length, drop, codes, All, AllPairs, Any, IsTrue, Some}
+use Rattle.std.specs.Prelude.{ℕ, ◌≡◌, ◌≢◌, ◌+◌, ◌-◌, ◌^◌, ◌<◌, ◌≤◌, ◌==◌, ◌⊎◌, ◌↔◌, ⊤, Bool, true, false, List, [], ◌∷◌, ◌++◌, length, drop, codes, All, AllPairs, Any, IsTrue, Some}
 use Rattle.std.specs.List.{slice_get, slice_split}
 use Rattle.std.specs.Fmt.{decimal}
 
 -- ---- the table of the commands
 
--- what a key takes: a number from least to most, or names that are parted by commas
+-- what a key takes: a number from least to most, names that are parted by commas, or `yes` or `no`
 pub data Takes : Type 0 where
   number : (least most : ℕ) → Takes
   names : Takes
+  choice : Takes
 
 -- a key, whether it has to be given, and what it takes
 pub record KeyRule : Type 0 where
@@ -22,8 +23,11 @@ pub record CommandRule : Type 0 where
   pub files : ℕ
   pub keys : List KeyRule
 
+abbrev pub all_rule : KeyRule
+all_rule = record { name = codes "all"; required = false; takes = choice }
+
 abbrev pub restore_rule : CommandRule
-restore_rule = record { name = codes "restore"; files = 2; keys = [] }
+restore_rule = record { name = codes "restore"; files = 2; keys = all_rule ∷ [] }
 
 abbrev pub cycles_rule : KeyRule
 cycles_rule = record { name = codes "cycles"; required = true; takes = number 1 8192 }
@@ -58,6 +62,7 @@ IsFor key word = (value : List ℕ) × Gives word key.name value
 abbrev pub HasShape : Takes → List ℕ → Type 0
 HasShape (number least most) value = ⊤
 HasShape names value = All (λ item. item ≢ []) (slice_split (λ b. b == 44) value)
+HasShape choice value = (value ≡ codes "yes") ⊎ (value ≡ codes "no")
 
 -- the word gives the key a value of its shape
 abbrev pub Suits : List ℕ → KeyRule → Type 0
@@ -91,11 +96,13 @@ IsCommand words = Any (λ rule. IsShaped rule words) command_rules
 abbrev pub IsNumber : Takes → List ℕ → ℕ → Type 0
 IsNumber (number least most) value n = (value ≡ decimal n) × (least ≤ n) × (n ≤ most)
 IsNumber names value n = ⊥
+IsNumber choice value n = ⊥
 
 -- the key takes a number, and the value is none that it may have
 abbrev pub IsBad : Takes → List ℕ → Type 0
 IsBad (number least most) value = (n : ℕ) → ¬ IsNumber (number least most) value n
 IsBad names value = ⊥
+IsBad choice value = ⊥
 
 -- behind the files, the word at this place gives the key this value
 pub record GivesAt (rule : CommandRule) (words : List (List ℕ)) (place : ℕ) (key : KeyRule) (value : List ℕ) : Type 0 where
@@ -107,6 +114,10 @@ pub record GivesAt (rule : CommandRule) (words : List (List ℕ)) (place : ℕ) 
 -- the key is given this number
 abbrev pub IsGiven : CommandRule → List (List ℕ) → KeyRule → ℕ → Type 0
 IsGiven rule words key n = (place : ℕ) × (value : List ℕ) × GivesAt rule words place key value × IsNumber key.takes value n
+
+-- the key is given `yes`, or it is not
+abbrev pub IsChosen : CommandRule → List (List ℕ) → KeyRule → Bool → Type 0
+IsChosen rule words key chosen = IsTrue chosen ↔ ((place : ℕ) × GivesAt rule words place key (codes "yes"))
 
 -- the word at this place gives a number that its key may not have
 abbrev pub IsBadAt : CommandRule → List (List ℕ) → ℕ → Type 0
@@ -122,9 +133,12 @@ IsBadNumber words place = Any (λ rule. IsShaped rule words × IsFirstBad rule w
 
 -- ---- the commands
 
--- the words ask for the restoration of this netlist and this dump
-abbrev pub Restores : List (List ℕ) → List ℕ → List ℕ → Type 0
-Restores words netlist dump = words ≡ codes "restore" ∷ netlist ∷ dump ∷ []
+-- the words ask for the restoration of this netlist and this dump, and for the rows of all signals or not
+pub record Restores (words : List (List ℕ)) (netlist dump : List ℕ) (all : Bool) : Type 0 where
+  pub shaped : IsShaped restore_rule words
+  pub is_netlist : slice_get words 1 ≡ Some netlist
+  pub is_dump : slice_get words 2 ≡ Some dump
+  pub has_all : IsChosen restore_rule words all_rule all
 
 -- the words ask for the text of this netlist
 abbrev pub Prints : List (List ℕ) → List ℕ → Type 0
@@ -138,9 +152,9 @@ pub record Simulates (words : List (List ℕ)) (netlist : List ℕ) (cycles seed
   pub has_seed : IsGiven simulate_rule words seed_rule seed
   pub has_trace : (value : List ℕ) × GivesAt simulate_rule words trace trace_rule value
 
--- the words are `restore` and two more
+-- the words are `restore` and what it takes
 abbrev pub IsRestore : List (List ℕ) → Type 0
-IsRestore words = (netlist dump : List ℕ) × Restores words netlist dump
+IsRestore words = (netlist dump : List ℕ) × (all : Bool) × Restores words netlist dump all
 
 -- the words are `print` and one more
 abbrev pub IsPrint : List (List ℕ) → Type 0

@@ -1,12 +1,14 @@
 //! The laws of what a run answers: a function that does nothing, with the laws as its contract.
-ghost use Rattle.restore_program.specs.AnswerLaws.{HasOneAnswer, AcceptedIsAnswered, PrintableIsPrinted, TraceableIsTraced};
+ghost use Rattle.restore_program.specs.AnswerLaws.{HasOneAnswer, AcceptedIsAnswered, PrintableIsPrinted, TraceableIsTraced, TraceIsSimulated};
 
-/// Words have one answer at most, by what the inputs hold. Where `restore` is asked for on an accepted netlist and dump, each answer is a table, or says
-/// that both literals of some cell follow; where `print` is asked for on an accepted netlist, it is the netlist's text; and where `simulate` is asked for on
-/// one, with names of signals, each once, and not too many cells, it is the dump of the run.
+/// Words have one answer at most, by what the inputs hold. Where `restore` is asked for on an accepted netlist and dump, each answer is a table or a
+/// contradiction; where `print` is asked for on an accepted netlist, it is the netlist's text; and where `simulate` is asked for on one, with names of signals,
+/// each once, and not too many cells, it is the dump of the run. From that dump only bits of the run are known, so its table has no other and there is no
+/// contradiction.
 pub fn answer_laws()
     ensures one_answer { HasOneAnswer }
     ensures accepted { AcceptedIsAnswered }
     ensures printable { PrintableIsPrinted }
     ensures traceable { TraceableIsTraced }
+    ensures simulated { TraceIsSimulated }
 {}

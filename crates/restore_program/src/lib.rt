@@ -2,14 +2,12 @@
 #![tactic(auto)]
 
 mod laws;
-mod lines;
 mod netlists;
 mod print;
 mod reply;
 mod restore;
 mod simulate;
 mod status;
-mod table;
 #[cfg(test)]
 mod tests;
 mod top;
@@ -20,6 +18,7 @@ mod word_rules;
 mod words;
 
 pub use laws::answer_laws;
+pub use report::WordRefusal;
 pub use status::Status;
 pub use top::run;
-pub use words::{Settings, WordRefusal, read_words};
+pub use words::{Settings, read_words};

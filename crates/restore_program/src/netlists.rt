@@ -1,12 +1,14 @@
 //! From the name of a netlist to the netlist.
-ghost use Rattle.std.specs.Prelude.{◌≡◌, ◌≢◌, ◌<◌, ◌≤◌, length, IfOk, IfErr, OnOk, IfSome};
+ghost use Rattle.std.specs.Prelude.{◌≡◌, ◌≢◌, ◌<◌, ◌≤◌, ℕ, List, length, IfOk, IfErr, OnOk, IfSome};
 ghost use Rattle.sr_outside.specs.Counts.{IsCounted};
 ghost use Rattle.sr_outside.specs.Told.{IsSteady};
-ghost use Rattle.restore_program.specs.Answer.{IsOfWords, most_bytes, IsFault, IsNetlistFault, IsNetlistOf, IsNetlistText, OnFault, OnRefused, RefusedNetlist, Replies, unread_reply};
+ghost use Rattle.restore_program.specs.Reply.{IsReady};
+ghost use Rattle.restore_program.specs.Answer.{IsOfWords, most_bytes, IsFault, IsNetlistFault, IsNetlistOf, IsNetlistText, OnFault, OnRefused, RefusedNetlist, Replies, unread_refusal};
 
-use crate::reply::{Part, Reply};
+use crate::reply::Reply;
 use bench_reader::read_bench;
 use netlist::{Netlist, build};
+use report::{Part, Refusal};
 use sr_outside::{Inputs, ReadRefusal, read_whole};
 use std::alloc::Global;
 
@@ -20,7 +22,8 @@ pub(crate) fn read_netlist<I: Inputs>(
     name: &str,
 ) -> Result<Netlist, Reply>
     ensures netlist { IfOk result (λ n. IfSome (I.held inputs.old) (λ held. IsNetlistOf held name.now n)) }
-    ensures refused { IfErr result (λ reply. IfSome (I.held inputs.old) (λ held. Replies (OnRefused held name.now) reply)) }
+    ensures refused { IfErr result (λ reply. (words : List (List ℕ)) → IfSome (I.held inputs.old) (λ held. Replies words (OnRefused held name.now) reply)) }
+    ensures ready { IfErr result (λ reply. (words : List (List ℕ)) → IsReady words reply) }
     ensures fault_of { IfErr result (OnFault (IsNetlistFault (I.held inputs.old) (I.shaky inputs.old) name.now)) }
     ensures not_of_words { IfErr result (λ reply. ¬ (IsOfWords reply)) }
     ensures held { I.held inputs.new ≡ I.held inputs.old }
@@ -33,18 +36,20 @@ pub(crate) fn read_netlist<I: Inputs>(
 {
     match read_whole(alloc, inputs, name, MOST_BYTES) {
         Ok(text) => parse_netlist(alloc, text.as_slice()),
-        Err(refusal) => Err(unread(Part::Netlist, refusal)),
+        Err(refusal) => Err(Reply::Refused {
+            refusal: unread(Part::Netlist, refusal),
+        }),
     }
 }
 
 /// What is written of an input that was not read.
-pub(crate) fn unread(part: Part, refusal: ReadRefusal) -> Reply
-    ensures { result ≡ unread_reply part refusal }
+pub(crate) fn unread(part: Part, refusal: ReadRefusal) -> Refusal
+    ensures { result ≡ unread_refusal part refusal }
 {
     match refusal {
-        ReadRefusal::Fault => Reply::Fault { part },
-        ReadRefusal::TooLong => Reply::TooLong { part },
-        ReadRefusal::NoMemory => Reply::NoMemory,
+        ReadRefusal::Fault => Refusal::Fault { part },
+        ReadRefusal::TooLong => Refusal::TooLong { part },
+        ReadRefusal::NoMemory => Refusal::NoMemory,
     }
 }
 
@@ -52,16 +57,23 @@ pub(crate) fn unread(part: Part, refusal: ReadRefusal) -> Reply
 fn parse_netlist(alloc: Global, bytes: &[u8]) -> Result<Netlist, Reply>
     requires short { length bytes.now ≤ most_bytes }
     ensures netlist { IfOk result (IsNetlistText bytes.now) }
-    ensures refused { IfErr result (Replies (RefusedNetlist bytes.now)) }
+    ensures refused { IfErr result (λ reply. (words : List (List ℕ)) → Replies words (RefusedNetlist bytes.now) reply) }
+    ensures ready { IfErr result (λ reply. (words : List (List ℕ)) → IsReady words reply) }
     ensures not_of_words { IfErr result (λ reply. ¬ (IsOfWords reply)) }
     ensures no_fault { IfErr result (λ reply. ¬ (IsFault reply)) }
 {
     let statements = match read_bench(alloc, bytes) {
         Ok(statements) => statements,
-        Err(refusal) => return Err(Reply::Bench { refusal }),
+        Err(refusal) => {
+            return Err(Reply::Refused {
+                refusal: Refusal::Bench { refusal },
+            });
+        }
     };
     match build(alloc, &statements) {
         Ok(netlist) => Ok(netlist),
-        Err(refusal) => Err(Reply::Net { refusal }),
+        Err(refusal) => Err(Reply::Refused {
+            refusal: Refusal::Net { refusal },
+        }),
     }
 }

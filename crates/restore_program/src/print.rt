@@ -1,21 +1,25 @@
 //! From a netlist to its text.
-ghost use Rattle.std.specs.Prelude.{◌≡◌, ◌≢◌, ◌<◌, ◌≤◌, IfSome};
+ghost use Rattle.std.specs.Prelude.{◌≡◌, ◌≢◌, ◌<◌, ◌≤◌, ℕ, List, IfSome};
 ghost use Rattle.sr_outside.specs.Counts.{IsCounted};
 ghost use Rattle.sr_outside.specs.Told.{IsSteady};
-ghost use Rattle.restore_program.specs.Answer.{IsOfWords, IsFault, IsNetlistFault, OnFault, PrintAnswer, Replies};
+ghost use Rattle.restore_program.specs.Answer.{IsOfWords, IsFault, IsNetlistFault, OnFault, Replies, RequestAnswer};
 ghost use Rattle.restore_program.specs.Printing.{IsPrinted};
+ghost use Rattle.restore_program.specs.Reply.{IsReady};
+ghost use Rattle.restore_program.specs.Requests.{printing};
 
 use crate::netlists::read_netlist;
 use crate::reply::Reply;
 use bench_reader::print_bench;
 use netlist::Netlist;
+use report::Refusal;
 use sr_model::NoMemory;
 use sr_outside::Inputs;
 use std::alloc::Global;
 
 /// What is written of this netlist.
 pub(crate) fn print_reply<I: Inputs>(alloc: Global, inputs: &mut I, netlist: &str) -> Reply
-    ensures answer { IfSome (I.held inputs.old) (λ held. Replies (PrintAnswer held netlist.now) result) }
+    ensures answer { (words : List (List ℕ)) → IfSome (I.held inputs.old) (λ held. Replies words (RequestAnswer held (printing netlist.now)) result) }
+    ensures ready { (words : List (List ℕ)) → IsReady words result }
     ensures fault_of { OnFault (IsNetlistFault (I.held inputs.old) (I.shaky inputs.old) netlist.now) result }
     ensures not_of_words { ¬ (IsOfWords result) }
     ensures fault { IsFault result → IsCounted (I.faults inputs.old) (I.faults inputs.new) }
@@ -35,6 +39,8 @@ fn printed_reply(alloc: Global, n: &Netlist) -> Reply
 {
     match print_bench(alloc, n) {
         Ok(text) => Reply::Text { text },
-        Err(NoMemory) => Reply::NoMemory,
+        Err(NoMemory) => Reply::Refused {
+            refusal: Refusal::NoMemory,
+        },
     }
 }

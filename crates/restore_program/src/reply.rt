@@ -1,53 +1,44 @@
 //! What a run writes.
-ghost use Rattle.std.specs.Prelude.{◌≡◌};
-ghost use Rattle.restore_program.specs.Reply.{text_of, status_of, part_status, bench_status, net_status, dump_status, trace_status};
-ghost use Rattle.restore_program.specs.Writes.{Writes};
+ghost use Rattle.std.specs.Prelude.{◌≡◌, map};
+ghost use Rattle.std.specs.String.{string_bytes};
+ghost use Rattle.known_planes.specs.Planes.{has};
+ghost use Rattle.report.specs.Table.{table_text};
+ghost use Rattle.report.specs.Writes.{Writes};
+ghost use Rattle.restore_program.specs.Reply.{IsReady, IsTable, unrolling_of, text_of, status_of, refusal_status, part_status, bench_status, net_status, dump_status};
 
-use crate::lines::{
-    write_bench_refusal, write_dump_refusal, write_fault, write_many_cells, write_net_refusal,
-    write_number, write_text, write_too_long, write_trace_refusal,
-};
 use crate::status::Status;
-use crate::trace::TraceRefusal;
 use bench_reader::BenchRefusal;
 use dump_reader::DumpRefusal;
-use netlist::NetRefusal;
-use sr_model::Bytes;
-use sr_outside::{Sink, WriteFault};
+use known_planes::Planes;
+use netlist::{NetRefusal, Netlist};
+use report::{Part, Refusal, RowBuf, write_clash, write_refusal, write_table};
+use sr_model::{Bytes, Cell};
+use sr_outside::{Sink, WriteFault, write_all};
+use unroll::Problem;
 
-/// Which input is spoken of.
-#[derive(Clone, Copy, Debug, PartialEq, Eq)]
-pub enum Part {
-    Netlist,
-    Dump,
+/// What is known of a netlist over so many cycles, and all that its table takes.
+#[derive(Drop)]
+pub struct Table {
+    pub(crate) netlist: Netlist,
+    pub(crate) cycles: u32,
+    pub(crate) planes: Planes,
+    /// How many cells of flip-flops were traced.
+    pub(crate) traced: u64,
+    /// Whether all signals have a row.
+    pub(crate) all: bool,
+    pub(crate) buf: RowBuf,
 }
 
 /// What a run writes.
-#[derive(Debug, Drop)]
+#[derive(Drop)]
 pub enum Reply {
-    /// The words have the shape of no command.
-    Usage,
-    /// A number is none that its key may have.
-    Number { key: &'static str },
-    /// A name of a list is refused.
-    Trace { refusal: TraceRefusal },
-    /// The cells of so many cycles are too many.
-    ManyCells { product: u64 },
-    /// An input has too many bytes.
-    TooLong { part: Part },
-    /// The netlist's text is refused.
-    Bench { refusal: BenchRefusal },
-    /// The netlist's statements are refused.
-    Net { refusal: NetRefusal },
-    /// The dump's text is refused.
-    Dumped { refusal: DumpRefusal },
-    /// Both literals of some cell follow from the dump.
-    Clash,
-    /// An input was not read.
-    Fault { part: Part },
-    /// Memory was refused.
-    NoMemory,
-    /// A table, or a netlist's text.
+    /// One line says why there is no result.
+    Refused { refusal: Refusal },
+    /// What is known from a dump.
+    Known { table: Table },
+    /// Both literals of a cell follow from a dump.
+    Clash { netlist: Netlist, cell: Cell },
+    /// A netlist's text or a dump's.
     Text { text: Bytes },
 }
 
@@ -56,16 +47,26 @@ pub(crate) fn reply_status(reply: &Reply) -> Status
     ensures { result ≡ status_of reply.now }
 {
     match reply {
-        Reply::Usage | Reply::Number { .. } => Status::Words,
-        Reply::Trace { refusal } => trace_status(refusal),
-        Reply::TooLong { part } => part_status(*part),
-        Reply::Bench { refusal } => bench_status(refusal),
-        Reply::Net { refusal } => net_status(refusal),
-        Reply::Dumped { refusal } => dump_status(refusal),
-        Reply::Clash | Reply::ManyCells { .. } => Status::Dump,
-        Reply::Fault { .. } => Status::ReadFault,
-        Reply::NoMemory => Status::NoMemory,
-        Reply::Text { .. } => Status::Done,
+        Reply::Refused { refusal } => refusal_status(refusal),
+        Reply::Clash { .. } => Status::Contradiction,
+        Reply::Known { .. } | Reply::Text { .. } => Status::Done,
+    }
+}
+
+fn refusal_status(refusal: &Refusal) -> Status
+    ensures { result ≡ refusal_status refusal.now }
+{
+    match refusal {
+        Refusal::Bench { refusal } => bench_status(refusal),
+        Refusal::Net { refusal } => net_status(refusal),
+        Refusal::Dumped { refusal } => dump_status(refusal),
+        Refusal::TooLong { part } => part_status(*part),
+        Refusal::Words { .. } | Refusal::TraceUnknown { .. } | Refusal::TraceTwice { .. } => {
+            Status::Words
+        }
+        Refusal::CellsByWords { .. } => Status::Dump,
+        Refusal::Fault { .. } => Status::ReadFault,
+        Refusal::NoMemory => Status::NoMemory,
     }
 }
 
@@ -105,31 +106,41 @@ fn dump_status(refusal: &DumpRefusal) -> Status
     }
 }
 
-fn trace_status(refusal: &TraceRefusal) -> Status
-    ensures { result ≡ trace_status refusal.now }
+/// Writes the reply on these words. It takes no memory.
+pub(crate) fn write_reply<K: Sink>(
+    reply: &mut Reply,
+    words: &[String],
+    out: &mut K,
+) -> Result<(), WriteFault>
+    requires { IsReady (map string_bytes words.now) reply.old }
+    ensures { Writes (K.written out.old) (K.written out.new) (K.room out.new) (K.faults out.old) (K.faults out.new) result (text_of (map string_bytes words.now) reply.old) }
 {
-    match refusal {
-        TraceRefusal::NoMemory => Status::NoMemory,
-        _ => Status::Words,
+    match reply {
+        Reply::Refused { refusal } => write_refusal(refusal, words, out),
+        Reply::Known { table } => write_known(table, out),
+        Reply::Clash { netlist, cell } => write_clash(netlist, *cell, out),
+        Reply::Text { text } => write_text(text.as_slice(), out),
     }
 }
 
-/// Writes the reply. It takes no memory.
-pub(crate) fn write_reply<K: Sink>(reply: &Reply, out: &mut K) -> Result<(), WriteFault>
-    ensures { Writes (K.written out.old) (K.written out.new) (K.room out.new) (K.faults out.old) (K.faults out.new) result (text_of reply.now) }
+/// Writes a table.
+fn write_known<K: Sink>(table: &mut Table, out: &mut K) -> Result<(), WriteFault>
+    requires { IsTable table.old }
+    ensures { Writes (K.written out.old) (K.written out.new) (K.room out.new) (K.faults out.old) (K.faults out.new) result (table_text table.old.netlist table.old.cycles (has (unrolling_of table.old) table.old.planes) table.old.traced table.old.all) }
 {
-    match reply {
-        Reply::Usage => write_text(out, b"srestore: words: 22 usage\n"),
-        Reply::Number { key } => write_number(out, key),
-        Reply::Trace { refusal } => write_trace_refusal(out, refusal),
-        Reply::ManyCells { product } => write_many_cells(out, *product),
-        Reply::TooLong { part } => write_too_long(out, *part),
-        Reply::Bench { refusal } => write_bench_refusal(out, refusal),
-        Reply::Net { refusal } => write_net_refusal(out, refusal),
-        Reply::Dumped { refusal } => write_dump_refusal(out, refusal),
-        Reply::Clash => write_text(out, b"srestore: dump: 28 not built yet\n"),
-        Reply::Fault { part } => write_fault(out, *part),
-        Reply::NoMemory => write_text(out, b"srestore: no memory\n"),
-        Reply::Text { text } => write_text(out, text.as_slice()),
-    }
+    let problem = Problem::new(&table.netlist, table.cycles);
+    write_table(
+        &problem,
+        &table.planes,
+        table.traced,
+        table.all,
+        &mut table.buf,
+        out,
+    )
+}
+
+fn write_text<K: Sink>(text: &[u8], out: &mut K) -> Result<(), WriteFault>
+    ensures { Writes (K.written out.old) (K.written out.new) (K.room out.new) (K.faults out.old) (K.faults out.new) result text.now }
+{
+    write_all(out, text)
 }

@@ -1,26 +1,33 @@
-//! From a netlist and a dump to the table.
-ghost use Rattle.std.specs.Prelude.{◌≡◌, ◌≢◌, ◌<◌, ◌≤◌, ℕ, List, length, All, IfOk, IfSome};
-ghost use Rattle.sr_model.specs.Closure.{SameLits};
-ghost use Rattle.sr_model.specs.Dump.{Known};
+//! From a netlist and a dump to what is known.
+ghost use Rattle.std.specs.Prelude.{◌≡◌, ◌<◌, ◌≤◌, ℕ, List, length, All, IfOk, IfSome, IsNone};
+ghost use Rattle.sr_model.specs.declared.cells.Cell.{Cell as AnyCell};
+ghost use Rattle.sr_model.specs.declared.cells.Lit.{Lit};
+ghost use Rattle.sr_model.specs.Closure.{Closure, HasBoth, SameLits};
+ghost use Rattle.sr_model.specs.Dump.{Row, dump_has};
 ghost use Rattle.sr_outside.specs.Counts.{IsCounted};
 ghost use Rattle.sr_outside.specs.Told.{IsSteady};
+ghost use Rattle.dump_reader.specs.Grammar.{block_count};
 ghost use Rattle.unroll.specs.Problem.{signals_in, unrolled};
 ghost use Rattle.known_planes.specs.Planes.{IsOf, has, lits};
-ghost use Rattle.restore_program.specs.Answer.{IsOfWords, most_bytes, OnDump, OnFault, OnKnown, Replies, IsDumpFault, IsDumpText, IsFault, IsFaultOf, RestoreAnswer, DumpAnswer};
+ghost use Rattle.restore_program.specs.Answer.{DumpAnswer, IsDumpFault, IsDumpText, IsFault, IsOfWords, IsRestoreFault, OnDump, OnFault, Replies, RequestAnswer, most_bytes};
+ghost use Rattle.restore_program.specs.Outcome.{IsKnown, IsOutcome, IsTraced};
+ghost use Rattle.restore_program.specs.Reply.{IsReady};
+ghost use Rattle.restore_program.specs.Requests.{restoration};
 
 use crate::netlists::{MOST_BYTES, read_netlist, unread};
-use crate::reply::{Part, Reply};
-use crate::table::table;
+use crate::reply::{Reply, Table};
 use dump_reader::{Dump, read_dump};
 use known_planes::{Closer, Planes, seed};
 use netlist::Netlist;
-use sr_model::NoMemory;
+use plain_close::first_clash;
+use report::{Part, Refusal, RowBuf};
+use sr_model::{Cell, NoMemory};
 use sr_outside::{Inputs, read_whole};
 use std::alloc::Global;
 use std::thread::Threads;
 use unroll::Problem;
 
-/// What is written of this netlist and this dump.
+/// What is written of this netlist and this dump, with the rows of all signals or of the flip-flops alone.
 pub(crate) fn restore_reply<R: Threads + Sync, I: Inputs, C: Closer>(
     rt: &R,
     alloc: Global,
@@ -28,9 +35,11 @@ pub(crate) fn restore_reply<R: Threads + Sync, I: Inputs, C: Closer>(
     closer: &mut C,
     netlist: &str,
     dump: &str,
+    all: bool,
 ) -> Reply
-    ensures answer { IfSome (I.held inputs.old) (λ held. Replies (RestoreAnswer held netlist.now dump.now) result) }
-    ensures fault_of { OnFault (IsFaultOf (I.held inputs.old) (I.shaky inputs.old) netlist.now dump.now) result }
+    ensures answer { (words : List (List ℕ)) → IfSome (I.held inputs.old) (λ held. Replies words (RequestAnswer held (restoration netlist.now dump.now all)) result) }
+    ensures ready { (words : List (List ℕ)) → IsReady words result }
+    ensures fault_of { OnFault (IsRestoreFault (I.held inputs.old) (I.shaky inputs.old) netlist.now dump.now) result }
     ensures not_of_words { ¬ (IsOfWords result) }
     ensures fault { IsFault result → IsCounted (I.faults inputs.old) (I.faults inputs.new) }
     ensures rose { I.faults inputs.old < I.faults inputs.new → IsFault result }
@@ -39,7 +48,7 @@ pub(crate) fn restore_reply<R: Threads + Sync, I: Inputs, C: Closer>(
         → I.faults inputs.new ≡ I.faults inputs.old }
 {
     match read_netlist(alloc, inputs, netlist) {
-        Ok(n) => dump_reply(rt, alloc, inputs, closer, &n, dump),
+        Ok(n) => dump_reply(rt, alloc, inputs, closer, n, dump, all),
         Err(reply) => reply,
     }
 }
@@ -50,10 +59,12 @@ fn dump_reply<R: Threads + Sync, I: Inputs, C: Closer>(
     alloc: Global,
     inputs: &mut I,
     closer: &mut C,
-    n: &Netlist,
+    n: Netlist,
     dump: &str,
+    all: bool,
 ) -> Reply
-    ensures answer { IfSome (I.held inputs.old) (λ held. Replies (DumpAnswer held n.now dump.now) result) }
+    ensures answer { (words : List (List ℕ)) → IfSome (I.held inputs.old) (λ held. Replies words (DumpAnswer held n dump.now all) result) }
+    ensures ready { (words : List (List ℕ)) → IsReady words result }
     ensures fault_of { OnFault (IsDumpFault (I.held inputs.old) (I.shaky inputs.old) dump.now) result }
     ensures not_of_words { ¬ (IsOfWords result) }
     ensures fault { IsFault result → IsCounted (I.faults inputs.old) (I.faults inputs.new) }
@@ -62,8 +73,10 @@ fn dump_reply<R: Threads + Sync, I: Inputs, C: Closer>(
     ensures steady { IsSteady (I.held inputs.old) (I.shaky inputs.old) dump.now → I.faults inputs.new ≡ I.faults inputs.old }
 {
     match read_whole(alloc, inputs, dump, MOST_BYTES) {
-        Ok(text) => recorded_reply(rt, alloc, closer, n, text.as_slice()),
-        Err(refusal) => unread(Part::Dump, refusal),
+        Ok(text) => recorded_reply(rt, alloc, closer, n, text.as_slice(), all),
+        Err(refusal) => Reply::Refused {
+            refusal: unread(Part::Dump, refusal),
+        },
     }
 }
 
@@ -72,69 +85,141 @@ fn recorded_reply<R: Threads + Sync, C: Closer>(
     rt: &R,
     alloc: Global,
     closer: &mut C,
-    n: &Netlist,
+    n: Netlist,
     bytes: &[u8],
+    all: bool,
 ) -> Reply
     requires short { length bytes.now ≤ most_bytes }
-    ensures answer { Replies (OnDump n.now bytes.now) result }
+    ensures answer { (words : List (List ℕ)) → Replies words (OnDump n bytes.now all) result }
+    ensures ready { (words : List (List ℕ)) → IsReady words result }
     ensures not_of_words { ¬ (IsOfWords result) }
     ensures no_fault { ¬ (IsFault result) }
 {
-    let dump = match read_dump(alloc, n, bytes) {
+    let dump = match read_dump(alloc, &n, bytes) {
         Ok(dump) => dump,
-        Err(refusal) => return Reply::Dumped { refusal },
+        Err(refusal) => {
+            return Reply::Refused {
+                refusal: Refusal::Dumped { refusal },
+            };
+        }
     };
-    let problem = Problem::new(n, dump.cycles());
-    closed_reply(rt, alloc, closer, &problem, &dump)
+    match outcome_of(rt, alloc, closer, &Problem::new(&n, dump.cycles()), &dump) {
+        Ok(outcome) => outcome_reply(alloc, n, &dump, all, outcome),
+        Err(NoMemory) => Reply::Refused {
+            refusal: Refusal::NoMemory,
+        },
+    }
 }
 
-/// What is written of a dump over its cycles.
-fn closed_reply<R: Threads + Sync, C: Closer>(
+/// What follows from a dump.
+#[derive(Drop)]
+pub(crate) enum Outcome {
+    /// What is known, and how many cells of flip-flops were traced.
+    Known { planes: Planes, traced: u64 },
+    /// Both literals of a cell: the least one, in the first level that has one.
+    Clash { cell: Cell },
+}
+
+/// What follows from a dump of the netlist over its cycles.
+fn outcome_of<R: Threads + Sync, C: Closer>(
     rt: &R,
     alloc: Global,
     closer: &mut C,
     p: &Problem,
     dump: &Dump,
-) -> Reply
+) -> Result<Outcome, NoMemory>
     requires cycles { dump.now.cycles ≡ p.now.cycles }
     requires signals { All (λ row. row.sig.0 < signals_in p.now) dump.now.rows }
-    ensures answer { (bytes : List ℕ) → IsDumpText p.now.circuit bytes dump.now → Replies (OnDump p.now.circuit bytes) result }
-    ensures not_of_words { ¬ (IsOfWords result) }
-    ensures no_fault { ¬ (IsFault result) }
+    ensures { IfOk result (IsOutcome p.now dump.now.rows) }
 {
-    match known_from(rt, alloc, closer, p, dump) {
-        Ok(planes) => known_reply(alloc, p, &planes),
-        Err(NoMemory) => Reply::NoMemory,
+    let base = seed(alloc, p, dump)?;
+    match known_from(rt, alloc, closer, p, &base)? {
+        Some(planes) => Ok(Outcome::Known {
+            planes,
+            traced: base.count_known_flip_flops(p),
+        }),
+        None => clash_from(alloc, p, &base),
     }
 }
 
-/// What is known from a dump: the closure of its literals.
+/// The closure of a base, or None where that has both literals of a cell. Then it may be left unfinished.
 fn known_from<R: Threads + Sync, C: Closer>(
     rt: &R,
     alloc: Global,
     closer: &mut C,
     p: &Problem,
-    dump: &Dump,
-) -> Result<Planes, NoMemory>
-    requires cycles { dump.now.cycles ≡ p.now.cycles }
-    requires signals { All (λ row. row.sig.0 < signals_in p.now) dump.now.rows }
-    ensures of { IfOk result (IsOf p.now) }
-    ensures known { IfOk result (λ planes. SameLits (lits p.now planes) (Known (unrolled p.now) dump.now.rows)) }
+    base: &Planes,
+) -> Result<Option<Planes>, NoMemory>
+    requires { IsOf p.now base.now }
+    ensures of { IfOk result (λ found. IfSome found (IsOf p.now)) }
+    ensures closure { IfOk result (λ found. IfSome found (λ planes. SameLits (lits p.now planes) (Closure (unrolled p.now) (lits p.now base.now)))) }
+    ensures no_clash { IfOk result (λ found. IfSome found (λ planes. (c : AnyCell) → HasBoth (lits p.now planes) c → ⊥)) }
+    ensures none { IfOk result (λ found. IsNone found → (c : AnyCell) × HasBoth (Closure (unrolled p.now) (lits p.now base.now)) c) }
 {
-    let base = seed(alloc, p, dump)?;
-    closer.close(rt, alloc, p, &base)
+    let planes = closer.close_until_clash(rt, alloc, p, base)?;
+    match planes.clash(p) {
+        None => Ok(Some(planes)),
+        Some(_) => Ok(None),
+    }
 }
 
-/// What is written of what is known: a table, or that some cell has both literals.
-fn known_reply(alloc: Global, p: &Problem, planes: &Planes) -> Reply
-    requires { IsOf p.now planes.now }
-    ensures { OnKnown p.now.circuit p.now.cycles (has p.now planes.now) result }
+/// The contradiction of a base whose closure has one.
+fn clash_from(alloc: Global, p: &Problem, base: &Planes) -> Result<Outcome, NoMemory>
+    requires of { IsOf p.now base.now }
+    requires some { (c : AnyCell) × HasBoth (Closure (unrolled p.now) (lits p.now base.now)) c }
+    ensures { (rows : List Row) → ((l : Lit) → has p.now base.now l ≡ dump_has rows l) → IfOk result (IsOutcome p.now rows) }
 {
-    if planes.clash(p).is_some() {
-        return Reply::Clash;
+    match first_clash(alloc, p, base)? {
+        Some(clash) => Ok(Outcome::Clash { cell: clash.cell }),
+        None => unreachable!(),
     }
-    match table(alloc, p, planes) {
-        Ok(text) => Reply::Text { text },
-        Err(NoMemory) => Reply::NoMemory,
+}
+
+/// What is written of what follows from a dump.
+fn outcome_reply(alloc: Global, netlist: Netlist, dump: &Dump, all: bool, outcome: Outcome) -> Reply
+    requires few { block_count (length netlist.drivers) dump.now.cycles ≤ 4194304 }
+    requires outcome { IsOutcome (record { circuit = netlist; cycles = dump.now.cycles }) dump.now.rows outcome }
+    ensures answer { (words : List (List ℕ)) (bytes : List ℕ) → IsDumpText netlist bytes dump.now → Replies words (OnDump netlist bytes all) result }
+    ensures ready { (words : List (List ℕ)) → IsReady words result }
+    ensures not_of_words { ¬ (IsOfWords result) }
+    ensures no_fault { ¬ (IsFault result) }
+{
+    match outcome {
+        Outcome::Known { planes, traced } => known_reply(alloc, netlist, dump, all, planes, traced),
+        Outcome::Clash { cell } => Reply::Clash { netlist, cell },
+    }
+}
+
+/// What is written of what is known. The row buffer is taken here, before a byte is written.
+fn known_reply(
+    alloc: Global,
+    netlist: Netlist,
+    dump: &Dump,
+    all: bool,
+    planes: Planes,
+    traced: u64,
+) -> Reply
+    requires few { block_count (length netlist.drivers) dump.now.cycles ≤ 4194304 }
+    requires known { IsKnown (record { circuit = netlist; cycles = dump.now.cycles }) dump.now.rows planes }
+    requires traced { IsTraced (record { circuit = netlist; cycles = dump.now.cycles }) dump.now.rows traced }
+    ensures answer { (words : List (List ℕ)) (bytes : List ℕ) → IsDumpText netlist bytes dump.now → Replies words (OnDump netlist bytes all) result }
+    ensures ready { (words : List (List ℕ)) → IsReady words result }
+    ensures not_of_words { ¬ (IsOfWords result) }
+    ensures no_fault { ¬ (IsFault result) }
+{
+    match RowBuf::new(alloc) {
+        Ok(buf) => Reply::Known {
+            table: Table {
+                netlist,
+                cycles: dump.cycles(),
+                planes,
+                traced,
+                all,
+                buf,
+            },
+        },
+        Err(NoMemory) => Reply::Refused {
+            refusal: Refusal::NoMemory,
+        },
     }
 }

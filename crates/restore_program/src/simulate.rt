@@ -4,15 +4,19 @@ ghost use Rattle.sr_outside.specs.Counts.{IsCounted};
 ghost use Rattle.sr_outside.specs.Told.{IsSteady};
 ghost use Rattle.netlist.specs.Circuit.{IsCircuit};
 ghost use Rattle.dump_reader.specs.Recording.{IsCount};
-ghost use Rattle.restore_program.specs.Answer.{IsFault, IsNetlistFault, OnFault, Replies, SimulateAnswer};
-ghost use Rattle.restore_program.specs.Tracing.{AreNamed, IsTraceText, OnTrace, names_in};
+ghost use Rattle.restore_program.specs.Answer.{IsFault, IsNetlistFault, OnFault, Replies, RequestAnswer};
+ghost use Rattle.restore_program.specs.Reply.{IsReady};
+ghost use Rattle.restore_program.specs.Requests.{simulation};
+ghost use Rattle.restore_program.specs.TraceRefusals.{HasListAt, list_refusal};
+ghost use Rattle.restore_program.specs.Tracing.{AreNamed, IsTraceText, OnTrace};
 
 use crate::netlists::read_netlist;
 use crate::reply::Reply;
-use crate::trace::traced_signals;
+use crate::trace::{TraceRefusal, traced_signals};
 use cycle_sim::{simulate_trace, stimulus};
 use dump_reader::print_dump;
 use netlist::Netlist;
+use report::Refusal;
 use sr_model::{Bytes, NoMemory, Sig};
 use sr_outside::Inputs;
 use std::alloc::Global;
@@ -20,17 +24,20 @@ use std::alloc::Global;
 /// The most blocks of 64 cycles over all signals.
 const MOST_BLOCKS: u64 = 4_194_304;
 
-/// What is written of this netlist over so many cycles from this seed, with a trace of the signals whose names the list has.
+/// What is written of this netlist over so many cycles from this seed, with a trace of the signals whose names the list has, which is that of the word at the place.
 pub(crate) fn simulate_reply<I: Inputs>(
     alloc: Global,
     inputs: &mut I,
     netlist: &str,
     cycles: u32,
     seed: u64,
+    place: u32,
     list: &str,
 ) -> Reply
     requires { IsCount cycles }
-    ensures answer { IfSome (I.held inputs.old) (λ held. Replies (SimulateAnswer held netlist.now cycles seed list.now) result) }
+    ensures answer { (words : List (List ℕ)) → HasListAt words place list.now
+        → IfSome (I.held inputs.old) (λ held. Replies words (RequestAnswer held (simulation netlist.now cycles seed list.now)) result) }
+    ensures ready { (words : List (List ℕ)) → HasListAt words place list.now → IsReady words result }
     ensures fault_of { OnFault (IsNetlistFault (I.held inputs.old) (I.shaky inputs.old) netlist.now) result }
     ensures fault { IsFault result → IsCounted (I.faults inputs.old) (I.faults inputs.new) }
     ensures rose { I.faults inputs.old < I.faults inputs.new → IsFault result }
@@ -38,28 +45,48 @@ pub(crate) fn simulate_reply<I: Inputs>(
     ensures steady { IsSteady (I.held inputs.old) (I.shaky inputs.old) netlist.now → I.faults inputs.new ≡ I.faults inputs.old }
 {
     match read_netlist(alloc, inputs, netlist) {
-        Ok(n) => traced_reply(alloc, &n, cycles, seed, list),
+        Ok(n) => traced_reply(alloc, &n, cycles, seed, place, list),
         Err(reply) => reply,
     }
 }
 
 /// What is written of a netlist that was read.
-fn traced_reply(alloc: Global, n: &Netlist, cycles: u32, seed: u64, list: &str) -> Reply
+fn traced_reply(alloc: Global, n: &Netlist, cycles: u32, seed: u64, place: u32, list: &str) -> Reply
     requires { IsCount cycles }
-    ensures answer { Replies (OnTrace n.now cycles seed list.now) result }
+    ensures answer { (words : List (List ℕ)) → HasListAt words place list.now → Replies words (OnTrace n.now cycles seed list.now) result }
+    ensures ready { (words : List (List ℕ)) → HasListAt words place list.now → IsReady words result }
     ensures no_fault { ¬ (IsFault result) }
 {
     let sigs = match traced_signals(alloc, n, list) {
         Ok(sigs) => sigs,
-        Err(refusal) => return Reply::Trace { refusal },
+        Err(refusal) => {
+            return Reply::Refused {
+                refusal: list_refusal(refusal, place),
+            };
+        }
     };
     let product = u64::from(n.signals()) * u64::from(cycles.div_ceil(64));
     if product > MOST_BLOCKS {
-        return Reply::ManyCells { product };
+        return Reply::Refused {
+            refusal: Refusal::CellsByWords { product },
+        };
     }
     match trace_text(alloc, n, cycles, seed, sigs.as_slice()) {
         Ok(text) => Reply::Text { text },
-        Err(NoMemory) => Reply::NoMemory,
+        Err(NoMemory) => Reply::Refused {
+            refusal: Refusal::NoMemory,
+        },
+    }
+}
+
+/// The refusal of the list that the word at the place has.
+fn list_refusal(refusal: TraceRefusal, place: u32) -> Refusal
+    ensures { result ≡ list_refusal refusal place }
+{
+    match refusal {
+        TraceRefusal::Unknown { item } => Refusal::TraceUnknown { place, item },
+        TraceRefusal::Twice { item } => Refusal::TraceTwice { place, item },
+        TraceRefusal::NoMemory => Refusal::NoMemory,
     }
 }
 

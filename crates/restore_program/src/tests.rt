@@ -13,6 +13,12 @@ const GATES: &[u8] = b"INPUT(a)\nINPUT(b)\nn = NOT(a)\ng = AND(n, b)\nq = DFF(g)
 
 const WITH_OR: &[u8] = b"INPUT(a)\nINPUT(b)\nz = OR(a, b)\nq = DFF(z)\n";
 
+/// Three flip-flops in a row behind an input.
+const SHIFT: &[u8] = b"INPUT(a)\nq1 = DFF(a)\nq2 = DFF(q1)\nq3 = DFF(q2)\n";
+
+/// Three inverters in a row behind an input.
+const INVERTERS: &[u8] = b"INPUT(a)\nb = NOT(a)\nc = NOT(b)\nd = NOT(c)\n";
+
 const APART: &[u8] = b"INPUT(a)\nINPUT(b)\np = DFF(a)\nq = DFF(b)\n";
 
 /// `q` is named before `n`, and `n` before `a`.
@@ -20,7 +26,7 @@ const BACKWARDS: &[u8] = b"q = DFF(n)\nn = not(a)\nINPUT(a)\n";
 
 const DUMP: &[u8] = b"srdump 1\ncycles 2\nq x1\n";
 
-const TABLE: &[u8] = b"srdump 1\ncycles 2\nq x1\nr x1\n";
+const TABLE: &[u8] = b"srdump 1\ncycles 2\nq x1\nr x1\n# traced 1 known 2 ratio 2.000\n";
 
 const USAGE: &[u8] = b"srestore: words: 22 usage\n";
 
@@ -28,9 +34,9 @@ const NETLIST_FAULT: &[u8] = b"srestore: read fault netlist\n";
 
 const DUMP_FAULT: &[u8] = b"srestore: read fault dump\n";
 
-const CLASH: &[u8] = b"srestore: dump: 28 not built yet\n";
-
 const RESTORE: [&str; 3] = ["restore", "net", "dump"];
+
+const RESTORE_ALL: [&str; 4] = ["restore", "net", "dump", "all=yes"];
 
 const PRINT: [&str; 2] = ["print", "net"];
 
@@ -106,59 +112,67 @@ fn tables(rt: HostRuntime) -> Result<(), Fail> {
         (
             GATES,
             b"srdump 1\ncycles 2\na 1x\n",
-            b"srdump 1\ncycles 2\nq x0\nr x0\n",
+            b"srdump 1\ncycles 2\nq x0\nr x0\n# traced 0 known 2 ratio -\n",
         ),
         (
             GATES,
             b"srdump 1\ncycles 4\nb 0x11\na 0100\n",
-            b"srdump 1\ncycles 4\nq x001\nr x101\n",
+            b"srdump 1\ncycles 4\nq x001\nr x101\n# traced 0 known 6 ratio -\n",
         ),
         // a 0 of g with b 1 leaves n 0, back through the AND gate
         (
             GATES,
             b"srdump 1\ncycles 3\nb 1xx\nq x0x\n",
-            b"srdump 1\ncycles 3\nq x0x\nr x0x\n",
+            b"srdump 1\ncycles 3\nq x0x\nr x0x\n# traced 1 known 2 ratio 2.000\n",
         ),
         (
             GATES,
             b"srdump 1\ncycles 4\nr 1x0x\nq x1x1\n",
-            b"srdump 1\ncycles 4\nq x101\nr 1101\n",
+            b"srdump 1\ncycles 4\nq x101\nr 1101\n# traced 4 known 7 ratio 1.750\n",
         ),
         // the rows go by the first mention of a flip-flop, not by name and not as the dump has them
         (
             b"INPUT(a)\nz = DFF(a)\nb = NOT(z)\nc = DFF(b)\n",
             b"srdump 1\ncycles 3\nc x1x\na 1xx\n",
-            b"srdump 1\ncycles 3\nz 01x\nc x10\n",
+            b"srdump 1\ncycles 3\nz 01x\nc x10\n# traced 1 known 4 ratio 4.000\n",
         ),
         (
             b"OUTPUT(c)\nINPUT(a)\nz = DFF(a)\nb = NOT(z)\nc = DFF(b)\n",
             b"srdump 1\ncycles 3\nc x1x\na 1xx\n",
-            b"srdump 1\ncycles 3\nc x10\nz 01x\n",
+            b"srdump 1\ncycles 3\nc x10\nz 01x\n# traced 1 known 4 ratio 4.000\n",
         ),
         (
             APART,
             b"srdump 1\ncycles 2\na 1x\n",
-            b"srdump 1\ncycles 2\np x1\nq xx\n",
+            b"srdump 1\ncycles 2\np x1\nq xx\n# traced 0 known 1 ratio -\n",
         ),
         (
             GATES,
             b"srdump 1\ncycles 1\n",
-            b"srdump 1\ncycles 1\nq x\nr x\n",
+            b"srdump 1\ncycles 1\nq x\nr x\n# traced 0 known 0 ratio -\n",
         ),
-        (b"", b"srdump 1\ncycles 64\n", b"srdump 1\ncycles 64\n"),
+        (
+            b"",
+            b"srdump 1\ncycles 64\n",
+            b"srdump 1\ncycles 64\n# traced 0 known 0 ratio -\n",
+        ),
         // names used before they are driven
-        (BACKWARDS, DUMP, b"srdump 1\ncycles 2\nq x1\n"),
+        (
+            BACKWARDS,
+            DUMP,
+            b"srdump 1\ncycles 2\nq x1\n# traced 1 known 1 ratio 1.000\n",
+        ),
         // CR LF, blanks, an `X`, a comment and no last newline
         (
             GATES,
             b" srdump 1\r\n\tcycles 2\r\n  q xX # none",
-            b"srdump 1\ncycles 2\nq xx\nr xx\n",
+            b"srdump 1\ncycles 2\nq xx\nr xx\n# traced 0 known 0 ratio -\n",
         ),
         // a flip-flop may stand in a loop
         (
             b"a = NOT(q)\nq = DFF(a)\n",
             b"srdump 1\ncycles 4\nq x1xx\n",
-            b"srdump 1\ncycles 4\nq 0101\n",
+            b"srdump 1\ncycles 4\nq 0101\n# traced 1 known 4 ratio 4.000\n",
         ),
     ];
     for (netlist, dump, text) in cases {
@@ -167,17 +181,93 @@ fn tables(rt: HostRuntime) -> Result<(), Fail> {
     Ok(())
 }
 
+/// Each dump has both literals of a cell at once or a level later, and what is told is the least such cell of the first such level.
 #[test]
 fn contradictions(rt: HostRuntime) -> Result<(), Fail> {
-    let dumps: [&[u8]; 3] = [
-        // q asks for n 1 in cycle 0, and r for n 0
-        b"srdump 1\ncycles 2\nq x1\nr x0\n",
-        b"srdump 1\ncycles 1\nn 1\na 1\n",
+    let cases: [(&[u8], &[u8], &[u8]); 7] = [
+        // q asks for g 1 in cycle 0 and so for n 1, and r for n 0, which gives g 0: both at level 2
+        (
+            GATES,
+            b"srdump 1\ncycles 2\nq x1\nr x0\n",
+            b"contradiction n 0\n",
+        ),
+        (
+            GATES,
+            b"srdump 1\ncycles 1\nn 1\na 1\n",
+            b"contradiction a 0\n",
+        ),
         // in a signal that is no flip-flop and has no row
-        b"srdump 1\ncycles 2\ng 1x\nr x0\n",
+        (
+            GATES,
+            b"srdump 1\ncycles 2\ng 1x\nr x0\n",
+            b"contradiction n 0\n",
+        ),
+        (
+            WITH_OR,
+            b"srdump 1\ncycles 2\na 1x\nq x0\n",
+            b"contradiction z 0\n",
+        ),
+        // G11 is 0 by G5, and 1 by G6
+        (
+            SEVENTEEN,
+            b"srdump 1\ncycles 2\nG5 1x\nG6 x1\n",
+            b"contradiction G11 0\n",
+        ),
+        // a later cycle at level 1 comes before an earlier one at level 2
+        (
+            INVERTERS,
+            b"srdump 1\ncycles 66\nd 0xxxxxxxxxxxxxxxxxxxxxxxxxxxxxxxxxxxxxxxxxxxxxxxxxxxxxxxxxxxxxxxx1\na 0xxxxxxxxxxxxxxxxxxxxxxxxxxxxxxxxxxxxxxxxxxxxxxxxxxxxxxxxxxxxxxxxx\nb xxxxxxxxxxxxxxxxxxxxxxxxxxxxxxxxxxxxxxxxxxxxxxxxxxxxxxxxxxxxxxxxx0\n",
+            b"contradiction c 65\n",
+        ),
+        // far from what was recorded, over two flip-flops
+        (
+            SHIFT,
+            b"srdump 1\ncycles 4\na 1xxx\nq3 xxx0\n",
+            b"contradiction q1 1\n",
+        ),
     ];
-    for dump in dumps {
-        expect_restored(&rt, rt.alloc(), GATES, dump, (CLASH, 4))?;
+    for (netlist, dump, line) in cases {
+        expect_restored(&rt, rt.alloc(), netlist, dump, (line, 1))?;
+        let mut inputs = held(rt.alloc(), netlist, dump)?;
+        expect_run(&rt, rt.alloc(), &RESTORE_ALL, &mut inputs, 100, (line, 1))?;
+    }
+    Ok(())
+}
+
+/// With the rows of all signals, and the same last line.
+#[test]
+fn all_signals(rt: HostRuntime) -> Result<(), Fail> {
+    let cases: [(&[u8], &[u8], &[u8]); 5] = [
+        (
+            SEVENTEEN,
+            b"srdump 1\ncycles 2\nG5 11\n",
+            b"srdump 1\ncycles 2\nG0 1x\nG1 xx\nG2 xx\nG3 xx\nG17 11\nG5 11\nG10 1x\nG6 x0\nG11 00\nG7 xx\nG13 xx\nG14 0x\nG8 00\nG15 xx\nG12 xx\nG16 xx\nG9 xx\n# traced 2 known 3 ratio 1.500\n",
+        ),
+        (
+            b"INPUT(a)\nq = DFF(a)\n",
+            b"srdump 1\ncycles 65\nq xxxxxxxxxxxxxxxxxxxxxxxxxxxxxxxxxxxxxxxxxxxxxxxxxxxxxxxxxxxxxxxx1\n",
+            b"srdump 1\ncycles 65\na xxxxxxxxxxxxxxxxxxxxxxxxxxxxxxxxxxxxxxxxxxxxxxxxxxxxxxxxxxxxxxx1x\nq xxxxxxxxxxxxxxxxxxxxxxxxxxxxxxxxxxxxxxxxxxxxxxxxxxxxxxxxxxxxxxxx1\n# traced 1 known 1 ratio 1.000\n",
+        ),
+        (
+            b"INPUT(a)\no = AND(a, a)\n",
+            b"srdump 1\ncycles 1\no 0\n",
+            b"srdump 1\ncycles 1\na 0\no 0\n# traced 0 known 0 ratio -\n",
+        ),
+        (
+            b"INPUT(a)\nINPUT(b)\nINPUT(c)\no = XOR(a, b, c)\n",
+            b"srdump 1\ncycles 2\no 11\na 11\nc 1x\n",
+            b"srdump 1\ncycles 2\na 11\nb 1x\nc 1x\no 11\n# traced 0 known 0 ratio -\n",
+        ),
+        // a recorded x is not traced
+        (
+            GATES,
+            b"srdump 1\ncycles 4\nr 1x0x\nq x1x1\n",
+            b"srdump 1\ncycles 4\na 010x\nb 1x1x\nn 101x\ng 101x\nq x101\nr 1101\n# traced 4 known 7 ratio 1.750\n",
+        ),
+    ];
+    for (netlist, dump, text) in cases {
+        let mut inputs = held(rt.alloc(), netlist, dump)?;
+        expect_run(&rt, rt.alloc(), &RESTORE_ALL, &mut inputs, 1000, (text, 0))?;
     }
     Ok(())
 }
@@ -319,10 +409,10 @@ fn refused_dumps(rt: HostRuntime) -> Result<(), Fail> {
     Ok(())
 }
 
-/// The inputs 0 to 32,768, one more than 8,192 cycles may have.
-fn many_inputs(alloc: Global) -> Result<Vec<u8>, AllocError> {
+/// So many inputs, whose names are the numbers from 0.
+fn many_inputs(alloc: Global, count: u32) -> Result<Vec<u8>, AllocError> {
     let mut netlist = Vec::new(alloc);
-    for i in 0..32_769_u32 {
+    for i in 0..count {
         let mut buffer = Buffer::new();
         netlist.extend_from_slice(b"INPUT(")?;
         netlist.extend_from_slice(buffer.format(i).as_bytes())?;
@@ -333,94 +423,108 @@ fn many_inputs(alloc: Global) -> Result<Vec<u8>, AllocError> {
 
 #[test]
 fn too_many_cells(rt: HostRuntime) -> Result<(), Fail> {
-    let netlist = many_inputs(rt.alloc())?;
+    let netlist = many_inputs(rt.alloc(), 32_769)?;
     let line: &[u8] = b"srestore: dump line 2: 17 too many cells 4194432\n";
     let dump: &[u8] = b"srdump 1\ncycles 8192\n";
-    expect_restored(&rt, rt.alloc(), &netlist, dump, (line, 4))
+    expect_restored(&rt, rt.alloc(), &netlist, dump, (line, 4))?;
+    // one fewer are as many as there may be
+    let netlist = many_inputs(rt.alloc(), 32_768)?;
+    let table: &[u8] = b"srdump 1\ncycles 8192\n# traced 0 known 0 ratio -\n";
+    expect_restored(&rt, rt.alloc(), &netlist, dump, (table, 0))
 }
 
 #[test]
 fn gates_of_every_kind(rt: HostRuntime) -> Result<(), Fail> {
     let cases: [(&[u8], &[u8], &[u8], u8); 16] = [
-        (WITH_OR, DUMP, b"srdump 1\ncycles 2\nq x1\n", 0),
+        (
+            WITH_OR,
+            DUMP,
+            b"srdump 1\ncycles 2\nq x1\n# traced 1 known 1 ratio 1.000\n",
+            0,
+        ),
         // forward, and back to the last pin
         (
             b"INPUT(a)\nINPUT(b)\nz = OR(a, b)\nq = DFF(z)\nr = DFF(b)\n",
             b"srdump 1\ncycles 2\na 0x\nq x1\n",
-            b"srdump 1\ncycles 2\nq x1\nr x1\n",
+            b"srdump 1\ncycles 2\nq x1\nr x1\n# traced 1 known 2 ratio 2.000\n",
             0,
         ),
         (
             b"INPUT(a)\nINPUT(b)\nz = OR(a, b)\nq = DFF(z)\nr = DFF(b)\n",
             b"srdump 1\ncycles 2\nb 1x\n",
-            b"srdump 1\ncycles 2\nq x1\nr x1\n",
+            b"srdump 1\ncycles 2\nq x1\nr x1\n# traced 0 known 2 ratio -\n",
             0,
         ),
         // back to every pin
         (
             b"INPUT(a)\nINPUT(b)\nz = NOR(a, b)\nq = DFF(z)\nr = DFF(b)\n",
             b"srdump 1\ncycles 2\nq x1\n",
-            b"srdump 1\ncycles 2\nq x1\nr x0\n",
+            b"srdump 1\ncycles 2\nq x1\nr x0\n# traced 1 known 2 ratio 2.000\n",
             0,
         ),
         (
             b"INPUT(a)\nINPUT(b)\nz = NAND(a, b)\nq = DFF(z)\nr = DFF(b)\n",
             b"srdump 1\ncycles 2\nq x0\n",
-            b"srdump 1\ncycles 2\nq x0\nr x1\n",
+            b"srdump 1\ncycles 2\nq x0\nr x1\n# traced 1 known 2 ratio 2.000\n",
             0,
         ),
         (
             b"INPUT(a)\nINPUT(b)\nz = NAND(a, b)\nq = DFF(z)\nr = DFF(b)\n",
             b"srdump 1\ncycles 2\na 1x\nq x1\n",
-            b"srdump 1\ncycles 2\nq x1\nr x0\n",
+            b"srdump 1\ncycles 2\nq x1\nr x0\n# traced 1 known 2 ratio 2.000\n",
             0,
         ),
         (
             b"INPUT(a)\nINPUT(b)\nz = XOR(a, b)\nq = DFF(z)\nr = DFF(b)\n",
             b"srdump 1\ncycles 2\na 1x\nq x1\n",
-            b"srdump 1\ncycles 2\nq x1\nr x0\n",
+            b"srdump 1\ncycles 2\nq x1\nr x0\n# traced 1 known 2 ratio 2.000\n",
             0,
         ),
         (
             b"INPUT(a)\nINPUT(b)\nz = XNOR(a, b)\nq = DFF(z)\nr = DFF(b)\n",
             b"srdump 1\ncycles 2\na 1x\nq x1\n",
-            b"srdump 1\ncycles 2\nq x1\nr x1\n",
+            b"srdump 1\ncycles 2\nq x1\nr x1\n# traced 1 known 2 ratio 2.000\n",
             0,
         ),
         (
             b"INPUT(a)\nINPUT(b)\nz = BUFF(b)\nq = DFF(z)\nr = DFF(b)\n",
             b"srdump 1\ncycles 2\nq x0\n",
-            b"srdump 1\ncycles 2\nq x0\nr x0\n",
+            b"srdump 1\ncycles 2\nq x0\nr x0\n# traced 1 known 2 ratio 2.000\n",
             0,
         ),
         // of one pin, and of three
         (
             b"INPUT(a)\nINPUT(b)\nz = AND(b)\nq = DFF(z)\nr = DFF(b)\n",
             b"srdump 1\ncycles 2\nq x0\n",
-            b"srdump 1\ncycles 2\nq x0\nr x0\n",
+            b"srdump 1\ncycles 2\nq x0\nr x0\n# traced 1 known 2 ratio 2.000\n",
             0,
         ),
         (
             b"INPUT(a)\nINPUT(b)\nINPUT(c)\nz = AND(a, b, c)\nq = DFF(z)\nr = DFF(c)\n",
             b"srdump 1\ncycles 2\na 1x\nb 1x\nq x0\n",
-            b"srdump 1\ncycles 2\nq x0\nr x0\n",
+            b"srdump 1\ncycles 2\nq x0\nr x0\n# traced 1 known 2 ratio 2.000\n",
             0,
         ),
         (
             b"INPUT(a)\nINPUT(b)\nINPUT(c)\nz = XOR(a, b, c)\nq = DFF(z)\nr = DFF(c)\n",
             b"srdump 1\ncycles 2\na 1x\nb 1x\nq x1\n",
-            b"srdump 1\ncycles 2\nq x1\nr x1\n",
+            b"srdump 1\ncycles 2\nq x1\nr x1\n# traced 1 known 2 ratio 2.000\n",
             0,
         ),
         // of one signal twice
         (
             b"INPUT(a)\nz = XOR(a, a)\nq = DFF(z)\n",
             b"srdump 1\ncycles 2\n",
-            b"srdump 1\ncycles 2\nq x0\n",
+            b"srdump 1\ncycles 2\nq x0\n# traced 0 known 1 ratio -\n",
             0,
         ),
         // a contradiction at a gate, and what is wrong with a dump before it
-        (WITH_OR, b"srdump 1\ncycles 2\na 1x\nq x0\n", CLASH, 4),
+        (
+            WITH_OR,
+            b"srdump 1\ncycles 2\na 1x\nq x0\n",
+            b"contradiction z 0\n",
+            1,
+        ),
         (
             WITH_OR,
             b"srdump 1\ncycles 2\na 1x\nq x0\nz 0\n",
@@ -431,7 +535,7 @@ fn gates_of_every_kind(rt: HostRuntime) -> Result<(), Fail> {
         (
             APART,
             b"srdump 1\ncycles 66\na 111111111111111111111111111111111111111111111111111111111111110x01\n",
-            b"srdump 1\ncycles 66\np x111111111111111111111111111111111111111111111111111111111111110x0\nq xxxxxxxxxxxxxxxxxxxxxxxxxxxxxxxxxxxxxxxxxxxxxxxxxxxxxxxxxxxxxxxxxx\n",
+            b"srdump 1\ncycles 66\np x111111111111111111111111111111111111111111111111111111111111110x0\nq xxxxxxxxxxxxxxxxxxxxxxxxxxxxxxxxxxxxxxxxxxxxxxxxxxxxxxxxxxxxxxxxxx\n# traced 0 known 64 ratio -\n",
             0,
         ),
     ];
@@ -451,48 +555,55 @@ const SEVENTEEN_LENIENT: &[u8] =
 
 #[test]
 fn worked_netlists(rt: HostRuntime) -> Result<(), Fail> {
-    let table: &[u8] = b"srdump 1\ncycles 2\nG5 11\nG6 x0\nG7 xx\n";
+    let table: &[u8] = b"srdump 1\ncycles 2\nG5 11\nG6 x0\nG7 xx\n# traced 2 known 3 ratio 1.500\n";
+    let again: &[u8] = b"srdump 1\ncycles 2\nG5 11\nG6 x0\nG7 xx\n# traced 3 known 3 ratio 1.000\n";
     let dump: &[u8] = b"srdump 1\ncycles 2\nG5 11\n";
-    let cases: [(&[u8], &[u8], &[u8], u8); 9] = [
+    let cases: [(&[u8], &[u8], &[u8], u8); 10] = [
         (SEVENTEEN, dump, table, 0),
+        (SEVENTEEN, &dump[..dump.len() - 1], table, 0),
         (SEVENTEEN_LENIENT, dump, table, 0),
-        // a table is a dump of the same netlist, with the same table
-        (SEVENTEEN, table, table, 0),
+        // a table is a dump of the same netlist, whose table has the same rows
+        (SEVENTEEN, table, again, 0),
         // G11 is 0 by G5, and 1 by G6
-        (SEVENTEEN, b"srdump 1\ncycles 2\nG5 1x\nG6 x1\n", CLASH, 4),
+        (
+            SEVENTEEN,
+            b"srdump 1\ncycles 2\nG5 1x\nG6 x1\n",
+            b"contradiction G11 0\n",
+            1,
+        ),
         // a flip-flop that drives itself, over four chunks
         (
             b"Q = DFF(Q)\n",
             b"srdump 1\ncycles 200\nQ xxxxxxxxxxxxxxxxxxxxxxxxxxxxxxxxxxxxxxxxxxxxxxxxxxxxxxxxxxxxxxxxxxxxxxxxxxxxxxxxxxxxxxxxxxxxxxxxxxxxxxxxxxxxxxxxxxxxxxxxxxxxxxxxxx1xxxxxxxxxxxxxxxxxxxxxxxxxxxxxxxxxxxxxxxxxxxxxxxxxxxxxxxxxxxxxxxxxxxxx\n",
-            b"srdump 1\ncycles 200\nQ 11111111111111111111111111111111111111111111111111111111111111111111111111111111111111111111111111111111111111111111111111111111111111111111111111111111111111111111111111111111111111111111111111111111\n",
+            b"srdump 1\ncycles 200\nQ 11111111111111111111111111111111111111111111111111111111111111111111111111111111111111111111111111111111111111111111111111111111111111111111111111111111111111111111111111111111111111111111111111111111\n# traced 1 known 200 ratio 200.000\n",
             0,
         ),
         // a constant gate, known from nothing
         (
             b"INPUT(a)\nz = XOR(a, a)\nq = DFF(z)\n",
             b"srdump 1\ncycles 3\na xxx\n",
-            b"srdump 1\ncycles 3\nq x00\n",
+            b"srdump 1\ncycles 3\nq x00\n# traced 0 known 2 ratio -\n",
             0,
         ),
         // back over the end of a chunk
         (
             b"INPUT(a)\nq = DFF(a)\n",
             b"srdump 1\ncycles 65\nq xxxxxxxxxxxxxxxxxxxxxxxxxxxxxxxxxxxxxxxxxxxxxxxxxxxxxxxxxxxxxxxx1\n",
-            b"srdump 1\ncycles 65\nq xxxxxxxxxxxxxxxxxxxxxxxxxxxxxxxxxxxxxxxxxxxxxxxxxxxxxxxxxxxxxxxx1\n",
+            b"srdump 1\ncycles 65\nq xxxxxxxxxxxxxxxxxxxxxxxxxxxxxxxxxxxxxxxxxxxxxxxxxxxxxxxxxxxxxxxx1\n# traced 1 known 1 ratio 1.000\n",
             0,
         ),
         // what follows only from two gates together is missed
         (
             b"INPUT(a)\nn = NOT(a)\no = OR(a, n)\nq = DFF(o)\n",
             b"srdump 1\ncycles 2\na xx\n",
-            b"srdump 1\ncycles 2\nq xx\n",
+            b"srdump 1\ncycles 2\nq xx\n# traced 0 known 0 ratio -\n",
             0,
         ),
         // no flip-flop
         (
             b"INPUT(a)\no = AND(a, a)\n",
             b"srdump 1\ncycles 1\n",
-            b"srdump 1\ncycles 1\n",
+            b"srdump 1\ncycles 1\n# traced 0 known 0 ratio -\n",
             0,
         ),
     ];
@@ -505,8 +616,12 @@ fn worked_netlists(rt: HostRuntime) -> Result<(), Fail> {
 #[test]
 fn words(rt: HostRuntime) -> Result<(), Fail> {
     let alloc = rt.alloc();
-    let cases: [(&[&str], &[u8], u8); 14] = [
+    let cases: [(&[&str], &[u8], u8); 18] = [
         (&RESTORE, TABLE, 0),
+        (&["restore", "net", "dump", "all=no"], TABLE, 0),
+        (&["restore", "net", "dump", "all=maybe"], USAGE, 2),
+        (&["restore", "net", "dump", "all=yes", "all=yes"], USAGE, 2),
+        (&["restore", "net", "dump", "workers=1"], USAGE, 2),
         (&PRINT, GATES, 0),
         (&["restore", "net"], USAGE, 2),
         (&[], USAGE, 2),
@@ -589,9 +704,15 @@ fn reads_that_fail(rt: HostRuntime) -> Result<(), Fail> {
 #[test]
 fn sinks_that_stop(rt: HostRuntime) -> Result<(), Fail> {
     let alloc = rt.alloc();
-    let cases: [(&[&str], &[u8], &[u8], u8); 6] = [
+    let cases: [(&[&str], &[u8], &[u8], u8); 7] = [
         (&RESTORE, DUMP, TABLE, 0),
         (&RESTORE, b"", b"srestore: dump line 1: 10 bad head\n", 4),
+        (
+            &RESTORE,
+            b"srdump 1\ncycles 1\nn 1\na 1\n",
+            b"contradiction a 0\n",
+            1,
+        ),
         (&["restore"], DUMP, USAGE, 2),
         (&PRINT, DUMP, GATES, 0),
         (&SIMULATE, b"", TRACE, 0),
@@ -622,7 +743,12 @@ fn texts_of_16_mib(rt: HostRuntime) -> Result<(), Fail> {
     let most = &long.as_slice()[1..];
     let cases: [(&[u8], &[u8], &[u8], u8); 4] = [
         (&long, DUMP, b"srestore: netlist: 24 too long\n", 3),
-        (most, b"srdump 1\ncycles 1\n", b"srdump 1\ncycles 1\n", 0),
+        (
+            most,
+            b"srdump 1\ncycles 1\n",
+            b"srdump 1\ncycles 1\n# traced 0 known 0 ratio -\n",
+            0,
+        ),
         (GATES, &long, b"srestore: dump: 24 too long\n", 4),
         (
             GATES,

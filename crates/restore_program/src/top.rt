@@ -1,14 +1,14 @@
 //! The top call.
-ghost use Rattle.std.specs.Prelude.{◌≡◌, ◌≢◌, ◌<◌, ◌≤◌, ◌⊎◌, ◌++◌, List, ℕ, map, IfSome, Some};
+ghost use Rattle.std.specs.Prelude.{◌≡◌, ◌≢◌, ◌<◌, ◌⊎◌, List, ℕ, map, IfSome};
 ghost use Rattle.std.specs.String.{string_bytes};
 ghost use Rattle.std.specs.Io.KnownBytes.{append_known};
 ghost use Rattle.sr_outside.specs.Counts.{IsCounted};
 ghost use Rattle.sr_outside.specs.Told.{AppendsPart, IsFull};
 ghost use Rattle.restore_program.specs.declared.status.Status.{Status as AnyStatus};
-ghost use Rattle.restore_program.specs.Words.{Gives, IsRestore, IsSimulate, cycles_rule, seed_rule, trace_rule};
+ghost use Rattle.restore_program.specs.Words.{Gives, IsRestore, IsSimulate, trace_rule};
 ghost use Rattle.restore_program.specs.Answer.{AreRefused, AreSteady, IsFault, IsOfWords, IsPlain, IsWordsFault, OnFault, ReplyAnswer, Says};
-ghost use Rattle.restore_program.specs.Reply.{clash_line, status_of};
-ghost use Rattle.restore_program.specs.Sound.{Finishes, IsAccepted, IsPrintable, IsSoundTable, IsTraceable, NoneMatches};
+ghost use Rattle.restore_program.specs.Reply.{IsReady, status_of};
+ghost use Rattle.restore_program.specs.Sound.{IsAccepted, IsDumpAgain, IsPrintable, IsSoundTable, IsTableOrClash, IsTraceable, NoneMatches};
 
 use crate::print::print_reply;
 use crate::reply::{Reply, reply_status, write_reply};
@@ -16,10 +16,11 @@ use crate::restore::restore_reply;
 use crate::simulate::simulate_reply;
 use crate::status::Status;
 use crate::word_keys::value_of;
-use crate::word_rules::{CYCLES, SEED, TRACE};
-use crate::words::{Settings, WordRefusal, read_words};
+use crate::word_rules::TRACE;
+use crate::words::{Settings, read_words};
 use known_planes::Closer;
 use plain_close::PlainCloser;
+use report::Refusal;
 use sr_outside::{Inputs, Sink, WriteFault};
 use std::alloc::Global;
 use std::thread::Threads;
@@ -38,15 +39,20 @@ pub fn run<R: Threads + Sync, I: Inputs, K: Sink>(
     ensures answer { result ≢ Status.WriteFault → (text : List ℕ) × (K.written out.new ≡ append_known (K.written out.old) text)
         × Says (map string_bytes words.now) (I.held inputs.old) (I.shaky inputs.old) text result }
 
-    // Each bit of a table is that of every execution that matches the dump, and a contradiction is written only where none matches.
+    // The table is that of the least set of literals above the dump that is closed under the one-gate rules, and each bit of its rows is that of every execution
+    // that matches the dump.
     ensures sound { result ≡ Status.Done → IsRestore (map string_bytes words.now) → (text : List ℕ) × (K.written out.new ≡ append_known (K.written out.old) text)
         × IfSome (I.held inputs.old) (IsSoundTable (map string_bytes words.now) text) }
-    ensures contradiction { result ≡ Status.Dump → IfSome (K.written out.old) (λ before. K.written out.new ≡ Some (before ++ clash_line)
-        → IfSome (I.held inputs.old) (NoneMatches (map string_bytes words.now))) }
 
-    // An accepted netlist and dump end in a table or the contradiction's line, unless memory, reading or writing fails.
-    ensures accepted { IfSome (I.held inputs.old) (λ held. IsAccepted (map string_bytes words.now) held
-        → Finishes (K.written out.new ≡ append_known (K.written out.old) clash_line) result) }
+    // It is itself a dump of the netlist, and the table of that dump has the same rows.
+    ensures again { result ≡ Status.Done → IsRestore (map string_bytes words.now) → (text : List ℕ) × (K.written out.new ≡ append_known (K.written out.old) text)
+        × IfSome (I.held inputs.old) (IsDumpAgain (map string_bytes words.now) text) }
+
+    // A contradiction is written only where no execution matches the dump.
+    ensures contradiction { result ≡ Status.Contradiction → IfSome (I.held inputs.old) (NoneMatches (map string_bytes words.now)) }
+
+    // An accepted netlist and dump end in a table or a contradiction, unless memory, reading or writing fails.
+    ensures accepted { IfSome (I.held inputs.old) (λ held. IsAccepted (map string_bytes words.now) held → IsPlain result → IsTableOrClash result) }
 
     // The text of an accepted netlist is printed, unless memory, reading or writing fails.
     ensures printed { IfSome (I.held inputs.old) (λ held. IsPrintable (map string_bytes words.now) held → IsPlain result → result ≡ Status.Done) }
@@ -71,9 +77,10 @@ pub fn run<R: Threads + Sync, I: Inputs, K: Sink>(
     ensures full { result ≡ Status.WriteFault → IsFull (K.written out.new) (K.room out.new) }
 {
     let mut closer = PlainCloser::new();
-    let reply = reply_to(rt, alloc, words, inputs, &mut closer);
-    match write_reply(&reply, out) {
-        Ok(()) => reply_status(&reply),
+    let mut reply = reply_to(rt, alloc, words, inputs, &mut closer);
+    let status = reply_status(&reply);
+    match write_reply(&mut reply, words, out) {
+        Ok(()) => status,
         Err(WriteFault) => Status::WriteFault,
     }
 }
@@ -87,6 +94,7 @@ fn reply_to<R: Threads + Sync, I: Inputs, C: Closer>(
     closer: &mut C,
 ) -> Reply
     ensures answer { ReplyAnswer (map string_bytes words.now) (I.held inputs.old) result }
+    ensures ready { IsReady (map string_bytes words.now) result }
     ensures fault_of { OnFault (IsWordsFault (map string_bytes words.now) (I.held inputs.old) (I.shaky inputs.old)) result }
     ensures of_words { IsOfWords result → AreRefused (map string_bytes words.now) ⊎ IsSimulate (map string_bytes words.now) }
     ensures refused { AreRefused (map string_bytes words.now) → (status_of result ≡ Status.Words) × (inputs.new ≡ inputs.old) }
@@ -95,13 +103,14 @@ fn reply_to<R: Threads + Sync, I: Inputs, C: Closer>(
     ensures steady { AreSteady (I.held inputs.old) (I.shaky inputs.old) (map string_bytes words.now) → I.faults inputs.new ≡ I.faults inputs.old }
 {
     match read_words(words) {
-        Ok(Settings::Restore) => restore_reply(
+        Ok(Settings::Restore { all }) => restore_reply(
             rt,
             alloc,
             inputs,
             closer,
             words[1].as_str(),
             words[2].as_str(),
+            all,
         ),
         Ok(
             Settings::Simulate {
@@ -115,12 +124,12 @@ fn reply_to<R: Threads + Sync, I: Inputs, C: Closer>(
             words[1].as_str(),
             cycles,
             seed,
-            trace_list(words[trace].as_str()),
+            trace,
+            trace_list(words[trace as usize].as_str()),
         ),
         Ok(Settings::Print) => print_reply(alloc, inputs, words[1].as_str()),
-        Err(WordRefusal::Usage) => Reply::Usage,
-        Err(WordRefusal::Number { place }) => Reply::Number {
-            key: number_key(words[place].as_str()),
+        Err(refusal) => Reply::Refused {
+            refusal: Refusal::Words { refusal },
         },
     }
 }
@@ -131,16 +140,4 @@ fn trace_list(word: &str) -> &str
     ensures { Gives word.now trace_rule.name result.now }
 {
     value_of(word, TRACE.name).unwrap()
-}
-
-/// The key with a number that a word is for.
-fn number_key(word: &str) -> &'static str
-    requires { (value : List ℕ) × (Gives word.now cycles_rule.name value ⊎ Gives word.now seed_rule.name value) }
-    ensures { (value : List ℕ) × Gives word.now result.now value }
-{
-    if value_of(word, CYCLES.name).is_some() {
-        CYCLES.name
-    } else {
-        SEED.name
-    }
 }

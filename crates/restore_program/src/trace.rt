@@ -1,19 +1,19 @@
 //! The signals of a trace by their names.
-ghost use Rattle.std.specs.Prelude.{◌≡◌, IfOk, IfErr, OnErr};
+ghost use Rattle.std.specs.Prelude.{IfOk, IfErr};
 ghost use Rattle.restore_program.specs.Tracing.{AreNamed, names_in};
-ghost use Rattle.restore_program.specs.TraceRefusals.{IsTraceRefusal, IsTwiceOf, IsUnknownOf};
+ghost use Rattle.restore_program.specs.TraceRefusals.{IsTraceRefusal};
 
 use netlist::Netlist;
-use sr_model::{Bytes, NoMemory, Sigs};
+use sr_model::Sigs;
 use std::alloc::Global;
 
-/// Why a list of names is refused.
-#[derive(Debug, Drop)]
+/// Why a list of names is refused: by its first wrong name. An item is a place in the list, from 0.
+#[derive(Clone, Copy)]
 pub(crate) enum TraceRefusal {
     /// No signal has the name.
-    Unknown { name: Bytes },
+    Unknown { item: u32 },
     /// The name stands before.
-    Twice { name: Bytes },
+    Twice { item: u32 },
     NoMemory,
 }
 
@@ -27,41 +27,15 @@ pub(crate) fn traced_signals(alloc: Global, n: &Netlist, list: &str) -> Result<S
         return Err(TraceRefusal::NoMemory);
     };
     for name in list.split(',') {
+        let item = sigs.len() as u32;
         let Some(sig) = n.find(name.as_bytes()) else {
-            return Err(unknown(alloc, name));
+            return Err(TraceRefusal::Unknown { item });
         };
         if marks[sig.0 as usize] {
-            return Err(twice(alloc, name));
+            return Err(TraceRefusal::Twice { item });
         }
         marks[sig.0 as usize] = true;
         sigs.push(sig).map_err(|_| TraceRefusal::NoMemory)?;
     }
     Ok(sigs)
-}
-
-fn unknown(alloc: Global, name: &str) -> TraceRefusal
-    ensures { IsUnknownOf name.now result }
-{
-    match copied(alloc, name) {
-        Ok(name) => TraceRefusal::Unknown { name },
-        Err(NoMemory) => TraceRefusal::NoMemory,
-    }
-}
-
-fn twice(alloc: Global, name: &str) -> TraceRefusal
-    ensures { IsTwiceOf name.now result }
-{
-    match copied(alloc, name) {
-        Ok(name) => TraceRefusal::Twice { name },
-        Err(NoMemory) => TraceRefusal::NoMemory,
-    }
-}
-
-fn copied(alloc: Global, name: &str) -> Result<Bytes, NoMemory>
-    ensures { IfOk result (λ bytes. bytes.items ≡ name.now) }
-{
-    match Vec::from_slice(alloc, name.as_bytes()) {
-        Ok(bytes) => Ok(Bytes::from_vec(bytes)),
-        Err(_) => Err(NoMemory),
-    }
 }

@@ -1,5 +1,5 @@
 //! Words of the form `key=value`.
-ghost use Rattle.std.specs.Prelude.{◌≡◌, ◌↔◌, IsTrue, Some, List, ℕ, map, option_map, All, Any};
+ghost use Rattle.std.specs.Prelude.{◌≡◌, ◌↔◌, IsTrue, Some, List, ℕ, codes, map, option_map, All, Any};
 ghost use Rattle.std.specs.String.{string_bytes};
 ghost use Rattle.restore_program.specs.Words.{Gives, HasShape, IsFor, IsGivenRight, Suits};
 ghost use Rattle.restore_program.specs.WordRules.{FirstPlace, rule_of, taken_by};
@@ -24,6 +24,27 @@ pub(crate) fn place_of(words: &[String], key: &Key) -> Option<usize>
         }
     }
     None
+}
+
+/// Whether one of these words gives the key the value `yes`.
+pub(crate) fn is_chosen(words: &[String], key: &Key) -> bool
+    ensures { IsTrue result ↔ Any (λ word. Gives word key.now.name.now (codes "yes")) (map string_bytes words.now) }
+{
+    for word in words {
+        if gives_yes(word.as_str(), key.name) {
+            return true;
+        }
+    }
+    false
+}
+
+fn gives_yes(word: &str, name: &str) -> bool
+    ensures { IsTrue result ↔ Gives word.now name.now (codes "yes") }
+{
+    match value_of(word, name) {
+        Some(value) => value == "yes",
+        None => false,
+    }
 }
 
 /// Whether each of these words suits one of the keys, and the keys are given as they have to be.
@@ -71,6 +92,7 @@ fn has_shape(value: &str, takes: Takes) -> bool
     match takes {
         Takes::Number { .. } => true,
         Takes::Names => value.split(',').all(|item| !item.is_empty()),
+        Takes::Choice => value == "yes" || value == "no",
     }
 }
 

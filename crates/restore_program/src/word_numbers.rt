@@ -55,7 +55,7 @@ fn is_bad(value: &str, takes: Takes) -> bool
 {
     match takes {
         Takes::Number { .. } => number_in(value, takes).is_none(),
-        Takes::Names => false,
+        Takes::Names | Takes::Choice => false,
     }
 }
 
@@ -65,7 +65,7 @@ fn number_in(value: &str, takes: Takes) -> Option<u64>
 {
     match takes {
         Takes::Number { least, most } => number_between(value, least, most),
-        Takes::Names => None,
+        Takes::Names | Takes::Choice => None,
     }
 }
 

@@ -7,6 +7,8 @@ pub(crate) enum Takes {
     Number { least: u64, most: u64 },
     /// Names, parted by commas.
     Names,
+    /// `yes` or `no`.
+    Choice,
 }
 
 /// A key: its name, whether it has to be given, and what it takes.
@@ -25,10 +27,16 @@ pub(crate) struct Command {
     pub(crate) keys: &'static [Key],
 }
 
+pub(crate) const ALL: Key = Key {
+    name: "all",
+    required: false,
+    takes: Takes::Choice,
+};
+
 pub(crate) const RESTORE: Command = Command {
     name: "restore",
     files: 2,
-    keys: &[],
+    keys: &[ALL],
 };
 
 pub(crate) const CYCLES: Key = Key {

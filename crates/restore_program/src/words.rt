@@ -1,15 +1,15 @@
 //! Reads the words of the command line.
-ghost use Rattle.std.specs.Prelude.{◌≡◌, ◌↔◌, ◌<◌, IsTrue, ℕ, List, Some, Ok, Err, map, length};
+ghost use Rattle.std.specs.Prelude.{◌≡◌, ◌↔◌, ◌<◌, Bool, IsTrue, ℕ, List, Some, Ok, Err, map, length};
 ghost use Rattle.std.specs.List.{slice_get};
 ghost use Rattle.std.specs.String.{string_bytes};
-ghost use Rattle.restore_program.specs.Words.{IsBadNumber, IsCommand, IsPrint, IsRestore, IsShaped, Simulates, simulate_rule};
+ghost use Rattle.restore_program.specs.Words.{IsBadNumber, IsCommand, IsPrint, IsShaped, Restores, Simulates, simulate_rule};
 ghost use Rattle.restore_program.specs.WordRules.{command_rule_of};
 ghost use Rattle.restore_program.specs.WordMeaning.{Means};
 
-use crate::word_keys::{place_of, suit_all};
+use crate::word_keys::{is_chosen, place_of, suit_all};
 use crate::word_numbers::{bad_number, number_of};
-use crate::word_rules::{CYCLES, Command, PRINT, RESTORE, SEED, SIMULATE, TRACE};
-use thiserror::Error;
+use crate::word_rules::{ALL, CYCLES, Command, PRINT, RESTORE, SEED, SIMULATE, TRACE};
+use report::WordRefusal;
 
 #[cfg(test)]
 mod tests;
@@ -17,40 +17,26 @@ mod tests;
 /// What the words ask for.
 #[derive(Clone, Copy, Debug, PartialEq, Eq)]
 pub enum Settings {
-    /// The restoration of a netlist and a dump: the two words that follow.
-    Restore,
+    /// The restoration of a netlist and a dump, the two words that follow; and whether every signal has a row.
+    Restore { all: bool },
     /// A run of a netlist, the word that follows, over so many cycles from this seed; and the place of the word `trace=..` among the words.
-    Simulate {
-        cycles: u32,
-        seed: u64,
-        trace: usize,
-    },
+    Simulate { cycles: u32, seed: u64, trace: u32 },
     /// The text of a netlist: the word that follows.
     Print,
-}
-
-/// Why the words are refused.
-#[derive(Clone, Copy, Debug, PartialEq, Eq, Error)]
-pub enum WordRefusal {
-    /// They have none of the commands' shapes.
-    #[error("usage")]
-    Usage,
-    /// A number is none that its key takes. The word is the first such one, by its place among the words.
-    #[error("word {place}: number")]
-    Number { place: usize },
 }
 
 /// What the words of the command line, without the program's name, ask for. The first word is the command. Its files follow, and any text may
 /// stand there. Then follow words `key=value` in any order, where the key ends at the first `=`.
 ///
-/// - `restore NET DUMP`, with no keys.
+/// - `restore NET DUMP`, with one key that may be left out: `all`, `yes` or `no`, and `no` where it is not given.
 /// - `simulate NET`, with three keys, each of which has to be given: `cycles`, a number from 1 to 8,192; `seed`, any number below 2^64; and
 ///   `trace`, one or more names that are not empty, parted by commas.
 /// - `print NET`, with no keys.
 ///
 /// It takes no memory, and the time is linear in the words' length.
 pub fn read_words(words: &[String]) -> Result<Settings, WordRefusal>
-    ensures restore { (result ≡ Ok Settings.Restore) ↔ IsRestore (map string_bytes words.now) }
+    ensures restore { (all : Bool) → (result ≡ Ok (Settings.Restore all))
+        ↔ ((netlist dump : List ℕ) × Restores (map string_bytes words.now) netlist dump all) }
     ensures simulate { (cycles seed trace : ℕ) → (result ≡ Ok (Settings.Simulate cycles seed trace))
         ↔ ((netlist : List ℕ) × Simulates (map string_bytes words.now) netlist cycles seed trace) }
     ensures print { (result ≡ Ok Settings.Print) ↔ IsPrint (map string_bytes words.now) }
@@ -61,7 +47,9 @@ pub fn read_words(words: &[String]) -> Result<Settings, WordRefusal>
     ensures number { (place : ℕ) → (result ≡ Err (WordRefusal.Number place)) ↔ IsBadNumber (map string_bytes words.now) place }
 {
     if is_shaped(words, &RESTORE) {
-        Ok(Settings::Restore)
+        Ok(Settings::Restore {
+            all: is_chosen(&words[RESTORE.files + 1..], &ALL),
+        })
     } else if is_shaped(words, &SIMULATE) {
         read_simulate(words)
     } else if is_shaped(words, &PRINT) {
@@ -94,12 +82,12 @@ fn read_simulate(words: &[String]) -> Result<Settings, WordRefusal>
     let keyed = &words[first..];
     if let Some(place) = bad_number(keyed, SIMULATE.keys) {
         return Err(WordRefusal::Number {
-            place: first + place,
+            place: (first + place) as u32,
         });
     }
     Ok(Settings::Simulate {
         cycles: number_of(keyed, &CYCLES).unwrap() as u32,
         seed: number_of(keyed, &SEED).unwrap(),
-        trace: first + place_of(keyed, &TRACE).unwrap(),
+        trace: (first + place_of(keyed, &TRACE).unwrap()) as u32,
     })
 }

@@ -6,7 +6,7 @@ ghost use Rattle.known_planes.specs.Planes.{IsOf};
 use super::{Drive, netlist_of};
 use crate::PlainCloser;
 use known_planes::{Closer, Planes};
-use sr_model::{Kind, NoMemory, Sig};
+use sr_model::{Cell, Kind, NoMemory, Sig};
 use std::alloc::Global;
 use std::process::Abort;
 use std::test::Fail;
@@ -183,8 +183,13 @@ fn expect_closed(
     assert!(rt; cycles <= 128);
     let p = Problem::new(&net, cycles);
     let base = planes_with(rt, alloc, &p, base)?;
-    let closed = PlainCloser::new().close(rt, alloc, &p, &base)?;
+    let mut closer = PlainCloser::new();
+    let closed = closer.close(rt, alloc, &p, &base)?;
     expect_words(rt, &p, &closed, want);
+    if closed.clash(&p).is_none() {
+        let known = closer.close_until_clash(rt, alloc, &p, &base)?;
+        expect_words(rt, &p, &known, want);
+    }
     Ok(())
 }
 
@@ -209,5 +214,34 @@ fn closes_more(rt: HostRuntime) -> Result<(), Fail> {
     let closed = closer.close(&rt, alloc, &p, &base)?;
     let all = closer.close_more(&rt, alloc, &p, &closed, &added)?;
     expect_words(&rt, &p, &all, WANT);
+    Ok(())
+}
+
+/// n1 = NOT(n0) has both literals by n0 and by n2 = NOT(n1); a whole closure would take them on to n0.
+#[test]
+fn stops_at_a_clash(rt: HostRuntime) -> Result<(), Fail> {
+    let alloc = rt.alloc();
+    let net = netlist_of(
+        &rt,
+        alloc,
+        &[
+            (None, &[]),
+            (Some(Kind::Not), &[0]),
+            (Some(Kind::Not), &[1]),
+        ],
+    )?;
+    assert!(rt; net.signals() == 3);
+    let p = Problem::new(&net, 1);
+    let base = planes_with(&rt, alloc, &p, &[(0, 0, 1, 0), (2, 0, 0, 1)])?;
+    let known = PlainCloser::new().close_until_clash(&rt, alloc, &p, &base)?;
+    let cell = Cell {
+        cycle: 0,
+        sig: Sig(1),
+    };
+    assert_eq!(rt; known.clash(&p), Some(cell));
+    assert_eq!(rt;
+        known.word_in_chunk(&p, Sig(0), 0),
+        PinWord { zero: 1, one: 0 }
+    );
     Ok(())
 }

@@ -17,6 +17,31 @@ const INVERTERS: &[Drive<'static>] = &[
     (Some(Kind::Not), &[1]),
 ];
 
+/// Two times three inverters behind one another.
+const TWO_CHAINS: &[Drive<'static>] = &[
+    (None, &[]),
+    (Some(Kind::Not), &[0]),
+    (Some(Kind::Not), &[1]),
+    (None, &[]),
+    (Some(Kind::Not), &[3]),
+    (Some(Kind::Not), &[4]),
+];
+
+/// The input n0, two inverters, the flip-flop n3, and two inverters.
+const PIPELINE: &[Drive<'static>] = &[
+    (None, &[]),
+    (Some(Kind::Not), &[0]),
+    (Some(Kind::Not), &[1]),
+    (Some(Kind::Dff), &[2]),
+    (Some(Kind::Not), &[3]),
+    (Some(Kind::Not), &[4]),
+];
+
+/// n0 is 0 in cycle 63, and n5 is 1 in cycle 64.
+const OVER_THE_END_OF_A_CHUNK: &[u8] = b"srdump 1\ncycles 66\n\
+n0 xxxxxxxxxxxxxxxxxxxxxxxxxxxxxxxxxxxxxxxxxxxxxxxxxxxxxxxxxxxxxxx0xx\n\
+n5 xxxxxxxxxxxxxxxxxxxxxxxxxxxxxxxxxxxxxxxxxxxxxxxxxxxxxxxxxxxxxxxx1x\n";
+
 /// A netlist of 100 signals at most, a dump's text of 128 cycles at most, and its first clash.
 type Case<'a> = (&'a [Drive<'a>], &'a [u8], Option<Clash>);
 
@@ -53,6 +78,42 @@ const CASES: &[Case<'static>] = &[
             cell: Cell {
                 cycle: 0,
                 sig: Sig(8),
+            },
+            level: 1,
+        }),
+    ),
+    // n1 has both in cycle 1, and n4, whose gate comes later, in cycle 0
+    (
+        TWO_CHAINS,
+        b"srdump 1\ncycles 2\nn0 x0\nn2 x1\nn3 0x\nn5 1x\n",
+        Some(Clash {
+            cell: Cell {
+                cycle: 0,
+                sig: Sig(4),
+            },
+            level: 1,
+        }),
+    ),
+    // after two levels on each side, n2 in cycle 63 and n3 in cycle 64 meet over the flip-flop
+    (
+        PIPELINE,
+        OVER_THE_END_OF_A_CHUNK,
+        Some(Clash {
+            cell: Cell {
+                cycle: 63,
+                sig: Sig(2),
+            },
+            level: 3,
+        }),
+    ),
+    // the least cell of level 1, though in cycle 0 n2 has both at level 3
+    (
+        PIPELINE,
+        b"srdump 1\ncycles 3\nn0 0x0\nn2 xx1\nn5 x1x\n",
+        Some(Clash {
+            cell: Cell {
+                cycle: 2,
+                sig: Sig(1),
             },
             level: 1,
         }),

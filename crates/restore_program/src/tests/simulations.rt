@@ -1,6 +1,7 @@
 //! Whole runs of `simulate`.
 use super::{
-    GATES, NETLIST_FAULT, SEVENTEEN, USAGE, expect_restored, expect_run, many_inputs, words_of,
+    GATES, NETLIST_FAULT, SEVENTEEN, SHIFT, USAGE, expect_restored, expect_run, many_inputs,
+    words_of,
 };
 use crate::run;
 use sr_outside::{MemInputs, MemSink};
@@ -8,9 +9,6 @@ use std::alloc::Global;
 use std::process::Abort;
 use std::test::*;
 use std::thread::Threads;
-
-/// Three flip-flops in a row behind an input.
-const SHIFT: &[u8] = b"INPUT(a)\nq1 = DFF(a)\nq2 = DFF(q1)\nq3 = DFF(q2)\n";
 
 /// `b` is named before `a`, and its INPUT line stands behind that of `a`.
 const SUM: &[u8] = b"z = XOR(b, a)\nINPUT(a)\nINPUT(b)\n";
@@ -182,7 +180,7 @@ fn words_of_other_numbers(rt: HostRuntime) -> Result<(), Fail> {
 /// What is wrong with the names comes before the number of cells.
 #[test]
 fn too_many_cells(rt: HostRuntime) -> Result<(), Fail> {
-    let netlist = many_inputs(rt.alloc())?;
+    let netlist = many_inputs(rt.alloc(), 32_769)?;
     let line: &[u8] = b"srestore: words: 17 too many cells 4194432\n";
     let cases: [([&str; 3], &[u8], u8); 4] = [
         (["cycles=8192", "seed=0", "trace=0"], line, 4),
@@ -210,15 +208,15 @@ fn restored_traces(rt: HostRuntime) -> Result<(), Fail> {
     let cases: [(&str, &[u8]); 3] = [
         (
             "trace=G7,G5,G6",
-            b"srdump 1\ncycles 8\nG5 00011100\nG6 01100000\nG7 00000001\n",
+            b"srdump 1\ncycles 8\nG5 00011100\nG6 01100000\nG7 00000001\n# traced 24 known 24 ratio 1.000\n",
         ),
         (
             "trace=G17,G10",
-            b"srdump 1\ncycles 8\nG5 00011100\nG6 x1100000\nG7 xxxxxxxx\n",
+            b"srdump 1\ncycles 8\nG5 00011100\nG6 x1100000\nG7 xxxxxxxx\n# traced 0 known 15 ratio -\n",
         ),
         (
             "trace=G3,G2,G1,G0",
-            b"srdump 1\ncycles 8\nG5 xxx11100\nG6 xxx00000\nG7 x0000001\n",
+            b"srdump 1\ncycles 8\nG5 xxx11100\nG6 xxx00000\nG7 x0000001\n# traced 0 known 17 ratio -\n",
         ),
     ];
     for (trace, table) in cases {

@@ -21,6 +21,17 @@ fn shapes(rt: HostRuntime) -> Result<(), Fail> {
         "restore net",
         "restore net dump more",
         "restore net dump cycles=1",
+        "restore net dump yes",
+        "restore net dump all",
+        "restore net dump all=",
+        "restore net dump all=maybe",
+        "restore net dump all=Yes",
+        "restore net dump all=yes,no",
+        "restore net dump all=yes=",
+        "restore net dump ALL=yes",
+        "restore net dump all=yes all=no",
+        "restore net dump all=no all=no",
+        "restore net dump all=yes more",
         "print net all=yes",
         "simulate net cycles=1 seed=0",
         "simulate net cycles=1 seed=0 trace=a width=4",
@@ -69,8 +80,16 @@ fn numbers(rt: HostRuntime) -> Result<(), Fail> {
 #[test]
 fn commands(rt: HostRuntime) -> Result<(), Fail> {
     let lines = [
-        ("restore net dump", Settings::Restore),
-        ("restore a=b cycles=1", Settings::Restore),
+        ("restore net dump", Settings::Restore { all: false }),
+        ("restore net dump all=no", Settings::Restore { all: false }),
+        ("restore net dump all=yes", Settings::Restore { all: true }),
+        ("restore net all=yes", Settings::Restore { all: false }),
+        ("restore a=b cycles=1", Settings::Restore { all: false }),
+        ("restore all=yes all=yes", Settings::Restore { all: false }),
+        (
+            "restore all=no all=yes all=yes",
+            Settings::Restore { all: true },
+        ),
         ("print restore", Settings::Print),
         (
             "simulate net cycles=1 seed=0 trace=a",

@@ -1,20 +1,19 @@
 use Rattle.std.proofs.Common.{◌∙◌}
 use Rattle.unroll.proofs.BlockNumbers.{block-sig}
 use Rattle.unroll.specs.Tasks.{task_at}
-use Rattle.plain_close.proofs.Turning.{turn-is, has-kept, blocks-at}
+use Rattle.plain_close.proofs.Turning.{forced-added, has-kept, blocks-at}
 use Rattle.plain_close.proofs.TurnedTasks.{done-after}
 use Rattle.plain_close.proofs.turns.turn.Goals as goal
 
 pub returns-clause-turns : goal.returns-clause-turns
 returns-clause-turns c =
-    turn-is c.args.p.now c.in_ok-see.ensures.problem c.args.task.sig c.args.task.chunk c.requires.task.early c.args.planes.now c.join_all.new.planes _
-    c.see.new.buffers.places.items c.see.new.buffers.view.items c.see.new.buffers.out.items c.forced_in_chunk.new.out.items c.in_ok-see.ensures.blocks c.in_ok-see.ensures.sees
-    c.forced_in_chunk.ensures.forced c.in_ok-added.ensures.joins
+    forced-added c.args.p.now c.args.task.sig c.args.task.chunk c.requires.task.early c.args.planes.now c.args.planes.now c.join_all.new.planes
+    c.force.new.buffers.places.items c.force.new.buffers.view.items c.force.new.buffers.out.items c.in_ok-force.ensures.forced c.in_ok-added.ensures.joins
 
 pub returns-clause-done : goal.returns-clause-done
 returns-clause-done c =
-    done-after c.args.p.now c.in_ok-see.ensures.problem (task_at c.args.p.now c.args.task.sig c.args.task.chunk) c.args.planes.now c.join_all.new.planes (returns-clause-turns c)
-    (has-kept c.args.p.now c.args.planes.now c.join_all.new.planes c.in_ok-added.ensures.wakes.bits) c.args.task.sig c.see.new.buffers.places.items c.in_ok-added.added c.may_force_more-again.result
+    done-after c.args.p.now c.in_ok-force.ensures.forced.problem (task_at c.args.p.now c.args.task.sig c.args.task.chunk) c.args.planes.now c.join_all.new.planes (returns-clause-turns c)
+    (has-kept c.args.p.now c.args.planes.now c.join_all.new.planes c.in_ok-added.ensures.wakes.bits) c.args.task.sig c.force.new.buffers.places.items c.in_ok-added.added c.outcome.result.again
     c.args.queues.now c.join_all.new.queues (block-sig c.args.p.now c.args.task.sig c.args.task.chunk c.requires.task.early)
-    (c.in_ok-see.ensures.sees.places_are ∙ blocks-at c.args.p.now c.args.task.sig c.args.task.chunk c.requires.task.early) c.in_ok-added.ensures.falls
-    c.may_force_more-again.ensures.other c.may_force_more-again.ensures.none
+    (c.in_ok-force.ensures.forced.places_are ∙ blocks-at c.args.p.now c.args.task.sig c.args.task.chunk c.requires.task.early) c.in_ok-added.ensures.falls
+    c.outcome.ensures.other c.outcome.ensures.none

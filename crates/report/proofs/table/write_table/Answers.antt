@@ -33,5 +33,5 @@ pub returns : goal.returns
 returns g c =
     writes_table c.args.p.now.circuit c.args.p.now.cycles (has c.args.p.now c.args.planes.now) c.args.traced c.args.all
     (g.K.Sink.written c.args.out.now) (g.K.Sink.written c.write_head.new.out) (g.K.Sink.written c.write_rows.new.out) (g.K.Sink.written c.write_ratio_line.new.out) (g.K.Sink.room c.write_ratio_line.new.out)
-    (g.K.Sink.faults c.args.out.now) (g.K.Sink.faults c.write_head.new.out) (g.K.Sink.faults c.write_rows.new.out) (g.K.Sink.faults c.write_ratio_line.new.out) c.write_ratio_line.result c.count_known.result
-    c.in_ok-write_head.ensures.written c.in_ok-write_head.ensures.uncounted c.in_ok-write_rows.ensures.written c.in_ok-write_rows.ensures.uncounted c.count_known.ensures.value c.write_ratio_line.ensures
+    (g.K.Sink.faults c.args.out.now) (g.K.Sink.faults c.write_head.new.out) (g.K.Sink.faults c.write_rows.new.out) (g.K.Sink.faults c.write_ratio_line.new.out) c.write_ratio_line.result c.count_known_flip_flops.result
+    c.in_ok-write_head.ensures.written c.in_ok-write_head.ensures.uncounted c.in_ok-write_rows.ensures.written c.in_ok-write_rows.ensures.uncounted c.count_known_flip_flops.ensures.count c.write_ratio_line.ensures

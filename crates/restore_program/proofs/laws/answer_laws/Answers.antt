@@ -1,4 +1,5 @@
 use Rattle.restore_program.proofs.OneAnswer.{one_answer, accepted_is_answered, printable_is_printed, traceable_is_traced}
+use Rattle.restore_program.proofs.SimulatedTraces.{trace_is_simulated}
 use Rattle.restore_program.proofs.laws.answer_laws.Goals as goal
 
 pub returns-clause-one_answer : goal.returns-clause-one_answer
@@ -12,3 +13,6 @@ returns-clause-printable c = printable_is_printed
 
 pub returns-clause-traceable : goal.returns-clause-traceable
 returns-clause-traceable c = traceable_is_traced
+
+pub returns-clause-simulated : goal.returns-clause-simulated
+returns-clause-simulated c = trace_is_simulated

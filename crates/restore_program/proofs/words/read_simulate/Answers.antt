@@ -1,7 +1,9 @@
-use Rattle.std.proofs.Common.{◌<◌, ◌+◌, ◌-◌, List, ℕ, map, take, drop, length, refl, subst, lit<, Global, arith}
+use Rattle.std.proofs.Common.{Any, Some, ◌<◌, ◌+◌, ◌-◌, List, ℕ, map, take, drop, length, refl, subst, lit<, Global, arith}
 use Rattle.std.proofs.lemmas.List.{length-map}
 use Rattle.std.specs.String.{string_bytes}
 use Rattle.restore_program.specs.Words.{cycles_rule, seed_rule, simulate_rule, trace_rule, IsFor}
+use Rattle.restore_program.specs.WordRules.{IsBadFor}
+use Rattle.restore_program.proofs.FewWords.{few_words}
 use Rattle.restore_program.proofs.Simulations.{bad_is_first, cycles_given, given_number, given_text, number_found, place_found, place_within, seed_given, simulates, trace_given}
 use Rattle.restore_program.proofs.WordPlaces.{drop_images}
 use Rattle.restore_program.proofs.words.read_simulate.Goals as goal
@@ -11,6 +13,14 @@ returns-in-Some c =
     let text = string_bytes {Z = Global} in
     let words = c.args.words.now in
     bad_is_first (map text words) (map text (take (length words - 2) (drop 2 words))) c.in-Some.place c.requires (drop_images text 2 words) c.in-Some.ensures
+
+pub overflow_cast-result : goal.overflow_cast-result
+overflow_cast-result c =
+    let text = string_bytes {Z = Global} in
+    let words = c.args.words.now in
+    let rest : List (List ℕ) = map text (take (length words - 2) (drop 2 words)) in
+    let within = place_within (λ word. Any (IsBadFor word) simulate_rule.keys) (map text words) rest 2 c.in-Some.place (Some c.in-Some.place) (drop_images text 2 words) c.in-Some.ensures refl in
+    grind (arith, within, few_words simulate_rule (map text words) c.requires)
 
 pub unwrap-requires : goal.unwrap-requires
 unwrap-requires c =
@@ -41,6 +51,14 @@ overflow_add-result-2 c =
     let within : 2 + c.unwrap-3.result < length words =
     subst (λ n. 2 + c.unwrap-3.result < n) (length-map words text) (place_within (IsFor trace_rule) (map text words) rest 2 c.unwrap-3.result c.place_of.result (drop_images text 2 words) c.place_of.ensures c.unwrap-3.ensures) in
     grind (arith, within)
+
+pub overflow_cast-result-3 : goal.overflow_cast-result-3
+overflow_cast-result-3 c =
+    let text = string_bytes {Z = Global} in
+    let words = c.args.words.now in
+    let rest : List (List ℕ) = map text (take (length words - 2) (drop 2 words)) in
+    let within = place_within (IsFor trace_rule) (map text words) rest 2 c.unwrap-3.result c.place_of.result (drop_images text 2 words) c.place_of.ensures c.unwrap-3.ensures in
+    grind (arith, within, few_words simulate_rule (map text words) c.requires)
 
 pub returns : goal.returns
 returns c =

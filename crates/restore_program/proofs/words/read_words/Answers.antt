@@ -1,16 +1,21 @@
-use Rattle.std.proofs.Common.{List, ℕ, map, Ok, Err, Global, sym, ◌∙◌}
+use Rattle.std.proofs.Common.{◌-◌, List, ℕ, length, drop, take, map, Ok, Err, Global, sym, ◌∙◌}
 use Rattle.std.specs.String.{string_bytes}
 use Rattle.std.proofs.lemmas.Bool.{false≢true}
 use Rattle.restore_program.specs.declared.words.Settings.TheVariants as settings
-use Rattle.restore_program.specs.declared.words.WordRefusal.TheVariants as refusals
+use Rattle.report.specs.declared.refusal.WordRefusal.TheVariants as refusals
 use Rattle.restore_program.proofs.OneMeaning.{exact_answer}
-use Rattle.restore_program.proofs.CommandShapes.{no_shape, shape_print, shape_restore}
+use Rattle.restore_program.proofs.CommandShapes.{no_shape, shape_print}
+use Rattle.restore_program.proofs.Simulations.{restores}
+use Rattle.restore_program.proofs.WordPlaces.{drop_images}
 use Rattle.restore_program.proofs.words.read_words.Goals as goal
 
 pub returns-then-is_shaped : goal.returns-then-is_shaped
 returns-then-is_shaped c =
-    let words : List (List ℕ) = map (string_bytes {Z = Global}) c.args.words.now in
-    exact_answer words (Ok settings.Restore) (shape_restore words (c.is_shaped.ensures.0 c.if-is_shaped.true))
+    let text = string_bytes {Z = Global} in
+    let words = c.args.words.now in
+    let shaped = c.is_shaped.ensures.0 c.if-is_shaped.true in
+    exact_answer (map text words) (Ok (settings.Restore c.is_chosen.result))
+    (restores (map text words) (map text (take (length words - 3) (drop 3 words))) c.is_chosen.result shaped (drop_images text 3 words) c.is_chosen.ensures)
 
 pub returns-then-is_shaped-2 : goal.returns-then-is_shaped-2
 returns-then-is_shaped-2 c = exact_answer (map (string_bytes {Z = Global}) c.args.words.now) c.read_simulate.result c.read_simulate.ensures

@@ -1,0 +1,10 @@
+use Rattle.std.proofs.lemmas.Result.{on_ok_weaker}
+use Rattle.plain_close.proofs.Turning.{forced-added}
+use Rattle.plain_close.proofs.next_level.force_task.Goals as goal
+
+pub returns-clause-adds : goal.returns-clause-adds
+returns-clause-adds c =
+    on_ok_weaker c.join_forced.result
+    (forced-added c.args.p.now c.args.task.sig c.args.task.chunk c.requires.task.early c.args.planes.now c.args.next.now.planes c.join_forced.new.next.planes
+    c.force.new.buffers.places.items c.force.new.buffers.view.items c.force.new.buffers.out.items c.in_ok-force.ensures.forced)
+    c.join_forced.ensures.joins

@@ -1,0 +1,30 @@
+-- What follows from a dump, from what follows from a base with its literals.
+use Rattle.std.proofs.Common.{◌≡◌, ◌<◌, ◌≤◌, ℕ, Bool, List, Option, Some, sym, subst, ◌∙◌}
+use Rattle.std.specs.Prelude.{IfSome}
+use mathlib.Core.Path.{fun_ext}
+use Rattle.sr_model.specs.declared.cells.Cell.{Cell}
+use Rattle.sr_model.specs.declared.cells.Lit.{Lit}
+use Rattle.sr_model.specs.Closure.{Closure, HasBoth, IsClash, SameLits, passing}
+use Rattle.sr_model.specs.Dump.{Row, dump_has}
+use Rattle.unroll.specs.Problem.{Unrolling, signals_in, unrolled}
+use Rattle.known_planes.specs.Planes.{PlaneSet, IsOf, has, lits}
+use Rattle.report.specs.Table.{known_count}
+use Rattle.restore_program.specs.Outcome.{IsFirstClash, IsKnown, IsTraced}
+use Rattle.restore_program.proofs.Answering.{known_from}
+
+-- what is so of whatever is found
+pub of_found : {A : Type 0} (P : A → Type 0) (found : Option A) (x : A) → found ≡ Some x → IfSome found P → P x
+of_found P found x is h = subst (λ o. IfSome o P) is h
+
+module _ (u : Unrolling) (base : PlaneSet) (rows : List Row) (each : (l : Lit) → has u base l ≡ dump_has rows l) where
+  same : has u base ≡ dump_has rows
+  same = fun_ext each
+
+  pub clash_outcome : (cell : Cell) (i : ℕ) → cell.sig.0 < signals_in u → IsClash (unrolled u) (lits u base) cell i → IsFirstClash u rows cell
+  clash_outcome cell i within is = (within, (i, subst (λ test. IsClash (unrolled u) (passing test) cell i) same is))
+
+  pub known_outcome : (planes : PlaneSet) → IsOf u planes → SameLits (lits u planes) (Closure (unrolled u) (lits u base)) → ((c : Cell) → HasBoth (lits u planes) c → ⊥) → IsKnown u rows planes
+  known_outcome planes of closure no_clash = record { of = of; no_clash = no_clash; known = known_from (unrolled u) rows (has u base) (lits u planes) each closure }
+
+  pub traced_outcome : (traced : ℕ) → traced ≡ known_count u.circuit u.cycles (has u base) → traced ≤ 536870912 → IsTraced u rows traced
+  traced_outcome traced is few = (subst (λ test. traced ≡ known_count u.circuit u.cycles test) same is, few)

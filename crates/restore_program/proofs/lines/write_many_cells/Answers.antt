@@ -1,9 +1,0 @@
-use Rattle.std.proofs.Common.{◌∙◌, ◌++◌, ap, subst}
-use Rattle.std.specs.Prelude.{codes}
-use Rattle.restore_program.specs.Writes.{Writes}
-use Rattle.restore_program.proofs.lines.write_many_cells.Goals as goal
-
-pub returns : goal.returns
-returns g c =
-    subst (Writes (g.K.Sink.written c.args.out.now) (g.K.Sink.written c.write_pieces.new.out) (g.K.Sink.room c.write_pieces.new.out) (g.K.Sink.faults c.args.out.now) (g.K.Sink.faults c.write_pieces.new.out) c.write_pieces.result)
-    (ap (λ digits. codes "srestore: words: 17 too many cells " ++ digits ++ codes "\n") (c.as_bytes.ensures.value ∙ c.format-digits.ensures.text)) c.write_pieces.ensures
