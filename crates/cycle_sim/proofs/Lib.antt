@@ -5,3 +5,8 @@ pub mod PinOrder
 pub mod FrameSteps
 pub mod Existing
 pub mod Tracing
+pub mod LoadSteps
+pub mod LoadNames
+pub mod Apart
+pub mod LoadShape
+pub mod LoadNets

@@ -2,7 +2,8 @@
 ghost use Rattle.std.specs.Prelude.{ℕ, ◌≡◌, ◌<◌, ◌+◌, false, length, IfOk, slice_index_or};
 ghost use Rattle.unroll.specs.Bits.{is_set};
 ghost use Rattle.dump_reader.specs.Recording.{IsCount};
-ghost use Rattle.cycle_sim.specs.Drawing.{AreDrawn, generator_at, word_at};
+ghost use Rattle.cycle_sim.specs.Drawing.{AreDrawn};
+ghost use Rattle.cycle_sim.specs.Words.{generator_at, word_at};
 
 use crate::bit_rows::{BitRows, zeros};
 use crate::input_bits::Stimulus;
@@ -31,11 +32,11 @@ pub fn stimulus(alloc: Global, n: &Netlist, seed: u64, cycles: u32) -> Result<St
     Ok(Stimulus::of(bits))
 }
 
-/// Draws a row of bits.
+/// Draws a row of bits from stream 1.
 fn draw(generator: &mut Lcg64Xsh32, row: &mut [bool])
     ensures size { length row.new ≡ length row.old }
-    ensures drawn { (seed n : ℕ) → generator.old ≡ generator_at seed n → (generator.new ≡ generator_at seed (n + length row.old))
-        × ((j : ℕ) → j < length row.old → slice_index_or row.new j false ≡ is_set (word_at seed (n + j)) 31) }
+    ensures drawn { (seed n : ℕ) → generator.old ≡ generator_at 1 seed n → (generator.new ≡ generator_at 1 seed (n + length row.old))
+        × ((j : ℕ) → j < length row.old → slice_index_or row.new j false ≡ is_set (word_at 1 seed (n + j)) 31) }
 {
     for j in 0..row.len() {
         row[j] = generator.next_word() >> 31 == 1;

@@ -1,4 +1,4 @@
-//! Simulates a netlist with two-valued bits, and records the bits of signals as a dump.
+//! Simulates a netlist with two-valued bits, and records the bits of signals as a dump; and makes large netlists to try it on.
 #![tactic(auto)]
 
 mod bit_rows;
@@ -7,6 +7,7 @@ mod drawing;
 mod execution;
 mod gates;
 mod input_bits;
+mod load;
 #[cfg(test)]
 mod tests;
 mod traces;
@@ -14,4 +15,5 @@ mod traces;
 pub use drawing::stimulus;
 pub use execution::{Execution, simulate};
 pub use input_bits::Stimulus;
+pub use load::load_netlist;
 pub use traces::{simulate_trace, trace_of};

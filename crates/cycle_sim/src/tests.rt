@@ -1,4 +1,6 @@
 //! The generator's first words, and a shift register of three flip-flops over four cycles.
+mod load;
+
 ghost use Rattle.std.specs.Prelude.{◌≡◌};
 
 use crate::{Execution, simulate, simulate_trace, stimulus, trace_of};

@@ -136,6 +136,7 @@ struct Turned {
 
 impl Turned {
     /// Whether something was added, and no cell of the task's blocks has both literals.
+    #[inline]
     fn goes_on(self) -> bool
         ensures yes { IsTrue result → IsTrue self.added }
         ensures no { IsFalse result → IsFalse self.added ⊎ IsTrue self.clash }
@@ -273,6 +274,7 @@ fn see(p: &Problem, task: InChunk, planes: &Planes, buffers: &mut Buffers) -> Re
 }
 
 /// Adds the blocks of one of the task's signals.
+#[inline]
 fn see_signal(
     p: &Problem,
     task: InChunk,
@@ -307,6 +309,7 @@ fn goes_on(p: &Problem, task: InChunk) -> bool
 }
 
 /// Adds a block and its words.
+#[inline]
 fn see_block(
     p: &Problem,
     sig: Sig,
@@ -382,6 +385,7 @@ pub fn join(
 
 /// The literals of both.
 #[tactic(auto, using(crate::proofs::Waking::or_small))]
+#[inline]
 pub(crate) fn union(a: PinWord, b: PinWord) -> PinWord
     ensures joined { result ≡ joined a b }
     ensures small_zero { result.zero < 2 ^ 64 }

@@ -195,11 +195,11 @@ no_two_signals n i j d lt within e =
     ap (λ (s : Sig). s.0) (sym (get_or-map-range_with_len number 0 n i i d (omega arith) (omega arith)) ∙ e ∙ get_or-map-range_with_len number 0 n j j d inside (omega arith)) in
     omega arith
 
-shown_once : (c : Circuit) (all : Bool) → AllPairs (λ a b. a ≢ b) (shown c all)
+pub shown_once : (c : Circuit) (all : Bool) → AllPairs (λ a b. a ≢ b) (shown c all)
 shown_once c true = no_two_signals (length c.drivers)
 shown_once c false = AllPairs-filter (λ a b. a ≢ b) (λ s. is_flip_flop (driver_at c.drivers s.0)) (signals_below (length c.drivers)) (no_two_signals (length c.drivers))
 
-shown_within : (c : Circuit) (all : Bool) → All (λ s. s.0 < length c.drivers) (shown c all)
+pub shown_within : (c : Circuit) (all : Bool) → All (λ s. s.0 < length c.drivers) (shown c all)
 shown_within c true = signals_within (length c.drivers)
 shown_within c false = All-filter (λ s. is_flip_flop (driver_at c.drivers s.0)) (λ s. s.0 < length c.drivers) (signals_below (length c.drivers)) (signals_within (length c.drivers))
 

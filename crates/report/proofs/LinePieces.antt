@@ -5,10 +5,13 @@ use Rattle.std.specs.Prelude.{codes}
 use Rattle.std.specs.Fmt.{decimal}
 use Rattle.sr_model.specs.declared.cells.Cell.{Cell}
 use Rattle.netlist.specs.Circuit.{Circuit}
+use Rattle.ratio.specs.Ratio.{Counts, in_thousandths}
 use Rattle.report.specs.Clash.{clash_line}
 use Rattle.report.specs.declared.refusal.Part.{Part}
 use Rattle.report.specs.declared.refusal.Part.TheVariants as parts
 use Rattle.report.specs.InputRefusals.{name_of, refused_line}
+use Rattle.report.specs.Load.{load_line}
+use Rattle.report.specs.Table.{ratio_text}
 
 -- the pieces of the line of a refusal
 pub refused_joined : (part : Part) (line : ℕ) (name digits why : List ℕ) → name ≡ name_of part → digits ≡ decimal line
@@ -36,3 +39,9 @@ clash_joined c cell name digits same_name same_digits =
     ap (λ n. codes "contradiction " ++ (n ++ (codes " " ++ (digits ++ (codes "\n" ++ []))))) same_name
     ∙ ap (λ d. codes "contradiction " ++ (get_or c.names cell.sig.0 [] ++ (codes " " ++ (d ++ (codes "\n" ++ []))))) same_digits
     ∙ simp append_assoc
+
+-- the pieces of the line of a load netlist
+pub load_joined : (number signals flip_flops : ℕ) (counts : Counts) (a b c d e r : List ℕ) → a ≡ decimal number → b ≡ decimal signals → c ≡ decimal flip_flops → d ≡ decimal counts.traced → e ≡ decimal counts.known
+    → r ≡ ratio_text (in_thousandths counts.known counts.traced)
+    → codes "load number " ++ (a ++ (codes " signals " ++ (b ++ (codes " flip_flops " ++ (c ++ (codes " traced " ++ (d ++ (codes " known " ++ (e ++ (codes " ratio " ++ (r ++ (codes "\n" ++ [])))))))))))) ≡ load_line number signals flip_flops counts
+load_joined number signals flip_flops counts a b c d e r is_a is_b is_c is_d is_e is_r = rw (is_a, is_b, is_c, is_d, is_e, is_r) (simp append_assoc)

@@ -6,3 +6,4 @@ pub mod Refusals
 pub mod Rows
 pub mod Table
 pub mod Writes
+pub mod Load

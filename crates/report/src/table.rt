@@ -14,12 +14,13 @@ ghost use Rattle.report.specs.Table.{known_count, ratio_line, ratio_text, shown,
 ghost use Rattle.report.specs.Writes.{Writes};
 
 use crate::pieces::write_pieces;
+use crate::ratio_text::put_ratio;
 use crate::row_buf::RowBuf;
 use known_planes::Planes;
 use ratio::Ratio;
 use sr_model::Sig;
 use sr_outside::{Sink, WriteFault, write_all};
-use sr_text::{write_thousandths, write_u64};
+use sr_text::write_u64;
 use unroll::{PinWord, Problem};
 
 /// Writes the table of the known literals: a row for each signal in ascending number, or for each flip-flop, with `0`, `1` or `x` for each cycle, and the line with
@@ -219,7 +220,7 @@ fn write_ratio_line<K: Sink>(known: u64, traced: u64, out: &mut K) -> Result<(),
     let mut ratio_digits = [0; 24];
     let traced_len = write_u64(traced, &mut traced_digits);
     let known_len = write_u64(known, &mut known_digits);
-    let ratio_len = put_ratio(known, traced, &mut ratio_digits);
+    let ratio_len = put_ratio(&Ratio::new(known, traced), &mut ratio_digits);
     let traced_is: &[u8] = b"# traced ";
     let known_is: &[u8] = b" known ";
     let ratio_is: &[u8] = b" ratio ";
@@ -236,21 +237,4 @@ fn write_ratio_line<K: Sink>(known: u64, traced: u64, out: &mut K) -> Result<(),
             end,
         ],
     )
-}
-
-/// Puts the ratio in thousandths at the front, or `-` where there is none, and answers its length.
-fn put_ratio(known: u64, traced: u64, into: &mut [u8; 24]) -> usize
-    requires known { known ≤ 536870912 }
-    requires traced { traced ≤ 536870912 }
-    ensures len { result ≡ length (ratio_text (in_thousandths known traced)) }
-    ensures short { result ≤ 24 }
-    ensures text { into.new ≡ put_front (ratio_text (in_thousandths known traced)) into.old }
-{
-    match Ratio::new(known, traced).thousandths() {
-        Some(ratio) => write_thousandths(ratio, into),
-        None => {
-            into[0] = b'-';
-            1
-        }
-    }
 }

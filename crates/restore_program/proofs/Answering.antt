@@ -1,5 +1,5 @@
 -- How the parts of an answer come together.
-use Rattle.std.proofs.Common.{◌≡◌, ℕ, ◌≤◌, ◌<◌, Bool, true, false, List, [], ◌∷◌, ◌++◌, map, length, get_or, Option, Some, None, sym, refl, subst, ap, ◌∙◌, inl, inr, arith}
+use Rattle.std.proofs.Common.{◌≡◌, ℕ, ◌≤◌, ◌<◌, Bool, List, [], ◌∷◌, ◌++◌, map, length, get_or, Option, Some, None, sym, refl, subst, ap, ◌∙◌, inl, inr, arith}
 use Rattle.std.proofs.Math.Seq.{get_or-append_seam}
 use Rattle.std.proofs.lemmas.List.{length-append}
 use Rattle.std.specs.Prelude.{IfSome, IsNone, IsErrOf, Result, Err}
@@ -46,7 +46,7 @@ use Rattle.restore_program.specs.declared.words.Settings.{Settings}
 use Rattle.restore_program.specs.Outcome.{IsFirstClash, IsKnown, IsTraced}
 use Rattle.restore_program.specs.Printing.{IsPrinted}
 use Rattle.restore_program.specs.Reply.{IsReady, text_of, status_of, refusal_status}
-use Rattle.restore_program.specs.Requests.{Request, Asks, printing}
+use Rattle.restore_program.specs.Requests.{Request, Asks}
 use Rattle.restore_program.specs.TraceRefusals.{HasListAt, IsItem, IsTraceRefusal, list_refusal}
 use Rattle.restore_program.specs.Tracing.{OnTrace, name_twice, names_in, unknown_name}
 use Rattle.restore_program.specs.declared.trace.TraceRefusal.{TraceRefusal}
@@ -54,7 +54,7 @@ use Rattle.restore_program.specs.declared.trace.TraceRefusal.TheVariants as trac
 use Rattle.restore_program.specs.WordMeaning.{Means}
 use Rattle.restore_program.specs.Words.{IsBadNumber, IsCommand}
 use Rattle.restore_program.proofs.Gifts.{bad_has_key}
-use Rattle.restore_program.specs.Answer.{most_bytes, IsNetlistText, RefusedNetlist, netlist_too_long, bad_line, no_netlist, IsDumpText, IsDumpRefusal, OnDump, dump_too_long, bad_dump, clash, table, IsNetlistOf, OnNetlist, OnPrint, OnRefused, DumpAnswer, RequestAnswer, Answer, usage, bad_number, asked, AreRefused, IsPlain, Replies, IsFault, IsFaultRefusal, IsOfWords, IsWordsRefusal, unread_refusal, ReplyAnswer, IsAcceptedNetlist, IsNetlistFault, IsDumpFault, IsRestoreFault, IsWordsFault, OnFault, OnFaultRefusal, Says}
+use Rattle.restore_program.specs.Answer.{most_bytes, IsNetlistText, RefusedNetlist, netlist_too_long, bad_line, no_netlist, IsDumpText, IsDumpRefusal, OnDump, dump_too_long, bad_dump, clash, table, IsNetlistOf, OnNetlist, OnPrint, OnRefused, DumpAnswer, RequestAnswer, Answer, usage, bad_number, asked, AreRefused, IsPlain, Replies, IsFault, IsFaultRefusal, IsOfWords, unread_refusal, ReplyAnswer, IsAcceptedNetlist, IsNetlistFault, IsDumpFault, IsRestoreFault, IsWordsFault, OnFault, OnFaultRefusal, Says}
 
 -- ---- from what is known to a dump
 
@@ -233,6 +233,7 @@ printed_now words c (replies.Text text) printed = λ _. (printed, refl)
 printed_now words c (replies.Refused refusals.NoMemory) printed = λ plain. absurd plain
 printed_now words c (replies.Known t) printed = absurd printed
 printed_now words c (replies.Clash n cell) printed = absurd printed
+printed_now words c (replies.Load loaded) printed = absurd printed
 printed_now words c (replies.Refused (refusals.Bench r)) printed = absurd printed
 printed_now words c (replies.Refused (refusals.Net r)) printed = absurd printed
 printed_now words c (replies.Refused (refusals.Dumped r)) printed = absurd printed
@@ -249,6 +250,7 @@ printed_plain c (replies.Text text) h = (λ f. f, λ w. w, λ words. tt)
 printed_plain c (replies.Refused refusals.NoMemory) h = (λ f. f, λ w. w, λ words. tt)
 printed_plain c (replies.Known t) h = absurd h
 printed_plain c (replies.Clash n cell) h = absurd h
+printed_plain c (replies.Load loaded) h = absurd h
 printed_plain c (replies.Refused (refusals.Bench r)) h = absurd h
 printed_plain c (replies.Refused (refusals.Net r)) h = absurd h
 printed_plain c (replies.Refused (refusals.Dumped r)) h = absurd h
@@ -303,6 +305,7 @@ no_faults P (replies.Refused r) none = no_fault_refusal P r none
 no_faults P (replies.Known t) none = tt
 no_faults P (replies.Clash n cell) none = tt
 no_faults P (replies.Text text) none = tt
+no_faults P (replies.Load loaded) none = tt
 
 fault_refusal_also : (P Q : Part → Type 0) (r : Refusal) → ((part : Part) → P part → Q part) → OnFaultRefusal P r → OnFaultRefusal Q r
 fault_refusal_also P Q (refusals.Bench r) also h = tt
@@ -321,6 +324,7 @@ faults_also P Q (replies.Refused r) also h = fault_refusal_also P Q r also h
 faults_also P Q (replies.Known t) also h = tt
 faults_also P Q (replies.Clash n cell) also h = tt
 faults_also P Q (replies.Text text) also h = tt
+faults_also P Q (replies.Load loaded) also h = tt
 
 pub unread_faults : (P : Part → Type 0) (part : Part) (refusal : ReadRefusal) → (IsErrOf (whole refusal) reads.Fault → P part) → OnFaultRefusal P (unread_refusal part refusal)
 unread_faults P part reads.Fault h = h refl
@@ -383,3 +387,4 @@ says words told shaky (replies.Refused r) answer fault = says_refused words told
 says words told shaky (replies.Known t) answer fault = plainly words told (replies.Known t) answer tt
 says words told shaky (replies.Clash n cell) answer fault = plainly words told (replies.Clash n cell) answer tt
 says words told shaky (replies.Text text) answer fault = plainly words told (replies.Text text) answer tt
+says words told shaky (replies.Load loaded) answer fault = plainly words told (replies.Load loaded) answer tt

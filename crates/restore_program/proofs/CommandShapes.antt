@@ -6,7 +6,7 @@ use Rattle.std.specs.Str.{bytes_eq}
 use Rattle.std.proofs.lemmas.List.Elements.{All-nil}
 use Rattle.std.proofs.lemmas.Option.{same_Some, slice_get-map, slice_get_read}
 use Rattle.std.proofs.lemmas.Slice.Eq.{bytes_eq-Decides}
-use Rattle.restore_program.specs.Words.{CommandRule, command_rules, IsCommand, IsGivenRight, IsPrint, IsShaped, Suits, later, print_rule, restore_rule, simulate_rule}
+use Rattle.restore_program.specs.Words.{CommandRule, command_rules, IsCommand, IsGivenRight, IsPrint, IsShaped, Suits, later, load_rule, print_rule, restore_rule, simulate_rule}
 
 abbrev SuitsAll : CommandRule → List (List ℕ) → Type 0
 SuitsAll rule words = All (λ word. Any (Suits word) rule.keys) words × All (IsGivenRight words) rule.keys
@@ -63,12 +63,22 @@ print_or_simulate words print simulate = let e : ◌≡◌ {A = ℕ} 5 8 = one_n
 pub print_or_restore : (words : List (List ℕ)) → IsPrint words → ¬ IsShaped restore_rule words
 print_or_restore words print restore = let e : ◌≡◌ {A = ℕ} 5 7 = one_name print_rule restore_rule words (print_shape words print) restore in omega arith
 
--- the shape of a command is that of one of the three
-pub no_shape : (words : List (List ℕ)) → ¬ IsShaped restore_rule words → ¬ IsShaped simulate_rule words → ¬ IsShaped print_rule words → ¬ IsCommand words
-no_shape words no_restore no_simulate no_print (zero, rule, h, e, shaped) = no_restore (subst (λ r. IsShaped r words) (sym e) shaped)
-no_shape words no_restore no_simulate no_print (suc zero, rule, h, e, shaped) = no_simulate (subst (λ r. IsShaped r words) (sym e) shaped)
-no_shape words no_restore no_simulate no_print (suc (suc zero), rule, h, e, shaped) = no_print (subst (λ r. IsShaped r words) (sym e) shaped)
-no_shape words no_restore no_simulate no_print (suc (suc (suc k)), rule, h, e, shaped) = absurd (omega arith)
+pub restore_or_load : (words : List (List ℕ)) → IsShaped restore_rule words → ¬ IsShaped load_rule words
+restore_or_load words restore load = let e : ◌≡◌ {A = ℕ} 7 4 = one_name restore_rule load_rule words restore load in omega arith
+
+pub simulate_or_load : (words : List (List ℕ)) → IsShaped simulate_rule words → ¬ IsShaped load_rule words
+simulate_or_load words simulate load = let e : ◌≡◌ {A = ℕ} 8 4 = one_name simulate_rule load_rule words simulate load in omega arith
+
+pub print_or_load : (words : List (List ℕ)) → IsPrint words → ¬ IsShaped load_rule words
+print_or_load words print load = let e : ◌≡◌ {A = ℕ} 5 4 = one_name print_rule load_rule words (print_shape words print) load in omega arith
+
+-- the shape of a command is that of one of the four
+pub no_shape : (words : List (List ℕ)) → ¬ IsShaped restore_rule words → ¬ IsShaped simulate_rule words → ¬ IsShaped print_rule words → ¬ IsShaped load_rule words → ¬ IsCommand words
+no_shape words no_restore no_simulate no_print no_load (zero, rule, h, e, shaped) = no_restore (subst (λ r. IsShaped r words) (sym e) shaped)
+no_shape words no_restore no_simulate no_print no_load (suc zero, rule, h, e, shaped) = no_simulate (subst (λ r. IsShaped r words) (sym e) shaped)
+no_shape words no_restore no_simulate no_print no_load (suc (suc zero), rule, h, e, shaped) = no_print (subst (λ r. IsShaped r words) (sym e) shaped)
+no_shape words no_restore no_simulate no_print no_load (suc (suc (suc zero)), rule, h, e, shaped) = no_load (subst (λ r. IsShaped r words) (sym e) shaped)
+no_shape words no_restore no_simulate no_print no_load (suc (suc (suc (suc k))), rule, h, e, shaped) = absurd (omega arith)
 
 -- ---- a rule of the table
 
@@ -80,6 +90,9 @@ simulate_is_one = (1, lit< tt, refl)
 
 pub print_is_one : Contains command_rules print_rule
 print_is_one = (2, lit< tt, refl)
+
+pub load_is_one : Contains command_rules load_rule
+load_is_one = (3, lit< tt, refl)
 
 pub shaped_command : (rule : CommandRule) (words : List (List ℕ)) → Contains command_rules rule → IsShaped rule words → IsCommand words
 shaped_command rule words (k, h, e) shaped = (k, rule, h, e, shaped)
@@ -93,16 +106,20 @@ simulate_command words simulate = shaped_command simulate_rule words simulate_is
 pub print_command : (words : List (List ℕ)) → IsPrint words → IsCommand words
 print_command words print = shaped_command print_rule words print_is_one (print_shape words print)
 
+pub load_command : (words : List (List ℕ)) → IsShaped load_rule words → IsCommand words
+load_command words load = shaped_command load_rule words load_is_one load
+
 -- the commands' names differ in length
 with_length : ℕ → CommandRule
-with_length n = cond (n == 7) restore_rule (cond (n == 8) simulate_rule print_rule)
+with_length n = cond (n == 7) restore_rule (cond (n == 8) simulate_rule (cond (n == 5) print_rule load_rule))
 
 with_its_length : (rule : CommandRule) → Contains command_rules rule → with_length (length rule.name) ≡ rule
 unfolding with_length
 with_its_length rule (zero, h, e) = subst (λ r. with_length (length r.name) ≡ r) e refl
 with_its_length rule (suc zero, h, e) = subst (λ r. with_length (length r.name) ≡ r) e refl
 with_its_length rule (suc (suc zero), h, e) = subst (λ r. with_length (length r.name) ≡ r) e refl
-with_its_length rule (suc (suc (suc k)), h, e) = absurd (omega arith)
+with_its_length rule (suc (suc (suc zero)), h, e) = subst (λ r. with_length (length r.name) ≡ r) e refl
+with_its_length rule (suc (suc (suc (suc k))), h, e) = absurd (omega arith)
 
 -- so words have the shape of one command at most
 pub one_command : (rule other : CommandRule) (words : List (List ℕ)) → Contains command_rules rule → Contains command_rules other → IsShaped rule words → IsShaped other words → rule ≡ other

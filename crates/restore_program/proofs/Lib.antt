@@ -1,4 +1,5 @@
 pub mod Answering
+pub mod AskedLoad
 pub mod AskedRestore
 pub mod AskedSimulation
 pub mod BadNumbers
@@ -8,12 +9,16 @@ pub mod FewWords
 pub mod Gifts
 pub mod GivenKeys
 pub mod GivenValues
+pub mod LoadCounts
+pub mod Loads
 pub mod OneAnswer
+pub mod OneLoad
 pub mod OneMeaning
 pub mod OneRequest
 pub mod OneRun
 pub mod OneTrace
 pub mod Outcomes
+pub mod SameTests
 pub mod SimulatedTraces
 pub mod Simulations
 pub mod Sounding

@@ -1,18 +1,15 @@
 -- There is one answer at most, and accepted inputs are answered.
-use Rattle.std.proofs.Common.{◌≡◌, ◌⊎◌, ℕ, ◌≤◌, ◌<◌, Bool, true, false, List, [], ◌∷◌, ◌++◌, length, Some, refl, sym, ap, subst, ◌∙◌, inl, inr, arith}
+use Rattle.std.proofs.Common.{◌≡◌, ℕ, ◌≤◌, ◌<◌, Bool, true, false, List, ◌++◌, length, Some, refl, sym, ap, subst, ◌∙◌, inl, inr, arith}
 use Rattle.std.specs.Prelude.{codes}
 use Rattle.std.proofs.lemmas.Option.{same_Some}
-use mathlib.Core.Path.{fun_ext}
 use Rattle.sr_model.specs.declared.cells.Cell.{Cell}
 use Rattle.sr_model.specs.declared.cells.Lit.{Lit}
-use Rattle.sr_model.specs.declared.cells.Sig.{Sig}
 use Rattle.sr_model.specs.Declaration.{Declaration}
 use Rattle.sr_model.specs.Dump.{dump_has}
-use Rattle.sr_model.specs.Closure.{LitSet, CellLe, HasBoth, SameLits, level, lit, passing}
+use Rattle.sr_model.specs.Closure.{CellLe, HasBoth, SameLits, level, lit, passing}
 use Rattle.sr_model.proofs.ClosureLaws.{level_in_Closure}
 use Rattle.sr_outside.specs.Told.{Held}
 use Rattle.bench_reader.specs.Grammar as grammar
-use Rattle.bench_reader.specs.Printed.{bench_text}
 use Rattle.bench_reader.proofs.BenchLaws as texts
 use Rattle.netlist.specs.Circuit.{Circuit, IsCircuit, circuit_of, unrolled_over}
 use Rattle.std.specs.Fmt.{decimal}
@@ -27,7 +24,6 @@ use Rattle.netlist.specs.Checks as checks
 use Rattle.netlist.specs.declared.checks.NetRefusal.{NetRefusal}
 use Rattle.netlist.specs.declared.checks.NetRefusal.TheVariants as net
 use Rattle.dump_reader.specs.Recording.{Recording}
-use Rattle.dump_reader.specs.Grammar.{block_count}
 use Rattle.dump_reader.proofs.SameRows.{one_reading}
 use Rattle.dump_reader.proofs.RefusedOnce as dump_laws
 use Rattle.report.specs.Clash.{clash_line}
@@ -36,15 +32,16 @@ use Rattle.report.specs.Refusals.{word_line}
 use Rattle.report.specs.declared.refusal.WordRefusal.TheVariants as word_refusals
 use Rattle.report.specs.Table.{table_text}
 use Rattle.restore_program.specs.declared.status.Status.{Status}
-use Rattle.restore_program.specs.declared.status.Status.TheVariants as statuses
 use Rattle.restore_program.specs.Answer.{most_bytes, IsNetlistText, RefusedNetlist, netlist_too_long, bad_line, no_netlist, IsClashOf, IsDumpText, KnownFrom, traced_count, OnDump, dump_too_long, bad_dump, clash, table, IsNetlistOf, OnNetlist, OnPrint, OnRefused, DumpAnswer, RequestAnswer, Answer, usage, bad_number, asked}
 use Rattle.restore_program.specs.AnswerLaws.{HasOneAnswer, AcceptedIsAnswered, PrintableIsPrinted, TraceableIsTraced}
-use Rattle.restore_program.specs.Requests.{Request, Asks, restoration, simulation, printing}
+use Rattle.restore_program.specs.Requests.{Request, Asks, restoration, simulation, printing, loading}
 use Rattle.restore_program.specs.Sound.{IsTableOrClash}
-use Rattle.restore_program.specs.Tracing.{AreNamed, OnTrace, names_in}
+use Rattle.restore_program.specs.Tracing.{OnTrace}
+use Rattle.restore_program.proofs.OneLoad.{one_load_text}
 use Rattle.restore_program.proofs.OneMeaning.{one_bad}
 use Rattle.restore_program.proofs.OneRequest.{asked_command, asked_good, one_request}
 use Rattle.restore_program.proofs.OneTrace.{one_on_trace, traced_done}
+use Rattle.restore_program.proofs.SameTests.{same_test}
 
 -- no list is both too long and not
 not_longer : (bytes : List ℕ) → length bytes ≤ most_bytes → most_bytes < length bytes → ⊥
@@ -133,14 +130,6 @@ one_refusal bytes text other status last (no_netlist stated r _ some spells is) 
     (same_line r s (refusal_is_unique again r s (subst (λ x. checks.IsRefusal x r) same is) is_s some some_s), refl)
 
 -- ---- one answer to a dump
-
-same_test : (known : LitSet) (test last : Lit → Bool) → SameLits (passing test) known → SameLits (passing last) known → test ≡ last
-same_test known test last a b = fun_ext (λ l. same_bit (test l) (last l) (λ h. b.1 l (a.0 l h)) (λ h. a.1 l (b.0 l h)))
-  where
-    same_bit : (x y : Bool) → (x ≡ true → y ≡ true) → (y ≡ true → x ≡ true) → x ≡ y
-    same_bit true y first second = sym (first refl)
-    same_bit false true first second = second refl
-    same_bit false false first second = refl
 
 one_recording : (c : Circuit) (bytes : List ℕ) (a b : Recording) → IsCircuit c → IsDumpText c bytes a → IsDumpText c bytes b → a ≡ b
 one_recording c bytes a b circuit first second = one_reading c bytes a b circuit first.1 second.1
@@ -231,6 +220,7 @@ one_to_request : (held : Held) (request : Request) (text other : List ℕ) (stat
 one_to_request held (restoration netlist dump all) = one_on_netlist held netlist (λ c. DumpAnswer held c dump all) (λ c text other status last is. one_to_dump held c dump all text other status last is)
 one_to_request held (simulation netlist cycles seed list) = one_on_netlist held netlist (λ c. OnTrace c cycles seed list) (λ c text other status last is. one_on_trace c cycles seed list text other status last is)
 one_to_request held (printing netlist) = one_on_netlist held netlist OnPrint (λ c text other status last is. one_print c text other status last)
+one_to_request held (loading number signals) = λ text other status last first second. (one_load_text number signals text other first.0 second.0, first.1 ∙ sym second.1)
 
 pub one_answer : HasOneAnswer
 one_answer words held text other status last (usage refused) (usage _) = (refl, refl)

@@ -10,10 +10,10 @@ use Rattle.restore_program.specs.declared.words.Settings.{Settings}
 use Rattle.restore_program.specs.declared.words.Settings.TheVariants as settings
 use Rattle.report.specs.declared.refusal.WordRefusal.{WordRefusal}
 use Rattle.report.specs.declared.refusal.WordRefusal.TheVariants as refusals
-use Rattle.restore_program.specs.Words.{CommandRule, command_rules, Gives, GivesAt, IsBad, IsBadAt, IsBadNumber, IsCommand, IsFirstBad, IsFor, IsGiven, IsGivenRight, IsNumber, IsPrint, IsShaped, KeyRule, Restores, Simulates, Takes, choice, cycles_rule, later, names, number, print_rule, restore_rule, seed_rule, simulate_rule, trace_rule}
+use Rattle.restore_program.specs.Words.{CommandRule, command_rules, Gives, GivesAt, IsBad, IsBadAt, IsBadNumber, IsCommand, IsFirstBad, IsFor, IsGiven, IsGivenRight, IsNumber, IsPrint, IsShaped, KeyRule, Loads, Restores, Simulates, Takes, choice, cycles_rule, later, load_rule, names, number, number_rule, print_rule, restore_rule, seed_rule, signals_rule, simulate_rule, trace_rule}
 use Rattle.restore_program.specs.WordMeaning.{Means}
 use Rattle.restore_program.proofs.GivenValues.{same_gift}
-use Rattle.restore_program.proofs.CommandShapes.{one_command, print_is_one, print_or_restore, print_or_simulate, print_shape, restore_is_one, restore_or_simulate, shaped_command, simulate_is_one}
+use Rattle.restore_program.proofs.CommandShapes.{load_is_one, one_command, print_is_one, print_or_load, print_or_restore, print_or_simulate, print_shape, restore_is_one, restore_or_load, restore_or_simulate, shaped_command, simulate_is_one, simulate_or_load}
 
 -- ---- a key is given in one place
 
@@ -106,13 +106,6 @@ restore_or_bad words place shaped bad = restore_never_bad words place (bad_of re
 pub print_or_bad : (words : List (List ℕ)) (place : ℕ) → IsPrint words → ¬ IsBadNumber words place
 print_or_bad words place print bad = print_never_bad words place (bad_of print_rule words place print_is_one (print_shape words print) bad).0
 
--- so that a bad number is one of a `simulate`
-pub bad_simulate : (words : List (List ℕ)) (place : ℕ) → IsBadNumber words place → IsShaped simulate_rule words × IsFirstBad simulate_rule words place
-bad_simulate words place (zero, rule, h, e, both) = absurd (restore_never_bad words place (subst (λ r. IsFirstBad r words place) (sym e) both.1).0)
-bad_simulate words place (suc zero, rule, h, e, both) = subst (λ r. IsShaped r words × IsFirstBad r words place) (sym e) both
-bad_simulate words place (suc (suc zero), rule, h, e, both) = absurd (print_never_bad words place (subst (λ r. IsFirstBad r words place) (sym e) both.1).0)
-bad_simulate words place (suc (suc (suc k)), rule, h, e, both) = absurd (omega arith)
-
 -- ---- the key of `restore`
 
 same_choice : (b d : Bool) → (IsTrue b → IsTrue d) → (IsTrue d → IsTrue b) → b ≡ d
@@ -156,22 +149,51 @@ one_simulation words netlist more cycles seed trace cycles' seed' trace' is othe
   same_place simulate_rule words trace_rule trace trace' is.has_trace.0 other.has_trace.0 (given_trace words is.shaped) is.has_trace.1 other.has_trace.1,
 )
 
+-- ---- the keys of `load`
+
+given_number_key : (words : List (List ℕ)) → IsShaped load_rule words → IsGivenRight (later load_rule words) number_rule
+given_number_key words shaped = shaped.given 0 number_rule (lit< tt)
+
+given_signals : (words : List (List ℕ)) → IsShaped load_rule words → IsGivenRight (later load_rule words) signals_rule
+given_signals words shaped = shaped.given 1 signals_rule (lit< tt)
+
+load_never_bad : (words : List (List ℕ)) (number signals place : ℕ) → Loads words number signals → ¬ IsBadAt load_rule words place
+load_never_bad words n signals place is (zero, key, h, e, (value, gives, bad)) =
+    let bad_there = subst (λ k. GivesAt load_rule words place k value × IsBad k.takes value) (sym e) (gives, bad) in
+    good_number load_rule words number_rule n place value (given_number_key words is.shaped) is.has_number bad_there.0 bad_there.1
+load_never_bad words n signals place is (suc zero, key, h, e, (value, gives, bad)) =
+    let bad_there = subst (λ k. GivesAt load_rule words place k value × IsBad k.takes value) (sym e) (gives, bad) in
+    good_number load_rule words signals_rule signals place value (given_signals words is.shaped) is.has_signals bad_there.0 bad_there.1
+load_never_bad words n signals place is (suc (suc k), key, h, e, more) = absurd (omega arith)
+
+pub load_or_bad : (words : List (List ℕ)) (number signals place : ℕ) → Loads words number signals → ¬ IsBadNumber words place
+load_or_bad words n signals place is bad = load_never_bad words n signals place is (bad_of load_rule words place load_is_one is.shaped bad).0
+
+pub one_load : (words : List (List ℕ)) (number signals number' signals' : ℕ) → Loads words number signals → Loads words number' signals' → (number ≡ number') × (signals ≡ signals')
+one_load words n signals n' signals' is other = (
+  one_number load_rule words number_rule 0 (2 ^ 64 - 1) n n' (given_number_key words is.shaped) refl (lit< tt) is.has_number other.has_number,
+  one_number load_rule words signals_rule 16 65536 signals signals' (given_signals words is.shaped) refl (lit< tt) is.has_signals other.has_signals,
+)
+
 -- ---- the settings of words
 
 abbrev settings_rule : Settings → CommandRule
 settings_rule (settings.Restore all) = restore_rule
 settings_rule (settings.Simulate cycles seed trace) = simulate_rule
 settings_rule settings.Print = print_rule
+settings_rule (settings.Load n signals) = load_rule
 
 settings_is_one : (s : Settings) → Contains command_rules (settings_rule s)
 settings_is_one (settings.Restore all) = restore_is_one
 settings_is_one (settings.Simulate cycles seed trace) = simulate_is_one
 settings_is_one settings.Print = print_is_one
+settings_is_one (settings.Load n signals) = load_is_one
 
 settings_shape : (words : List (List ℕ)) (s : Settings) → Means words (Ok s) → IsShaped (settings_rule s) words
 settings_shape words (settings.Restore all) is = is.2.shaped
 settings_shape words (settings.Simulate cycles seed trace) is = is.1.shaped
 settings_shape words settings.Print is = print_shape words is
+settings_shape words (settings.Load n signals) is = is.shaped
 
 settings_command : (words : List (List ℕ)) (s : Settings) → Means words (Ok s) → IsCommand words
 settings_command words s is = shaped_command (settings_rule s) words (settings_is_one s) (settings_shape words s is)
@@ -181,6 +203,7 @@ never_bad : (words : List (List ℕ)) (s : Settings) (place : ℕ) → Means wor
 never_bad words (settings.Restore all) place is = restore_never_bad words place
 never_bad words (settings.Simulate cycles seed trace) place is = simulate_or_bad words is.0 cycles seed trace place is.1
 never_bad words settings.Print place is = print_never_bad words place
+never_bad words (settings.Load n signals) place is = load_never_bad words n signals place is
 
 good_settings : (words : List (List ℕ)) (s : Settings) (place : ℕ) → Means words (Ok s) → ¬ IsBadNumber words place
 good_settings words s place is bad = never_bad words s place is (bad_of (settings_rule s) words place (settings_is_one s) (settings_shape words s is) bad).0
@@ -191,17 +214,27 @@ same_restore all other e = ap settings.Restore e
 same_simulate : (cycles seed trace cycles' seed' trace' : ℕ) → (cycles ≡ cycles') × (seed ≡ seed') × (trace ≡ trace') → settings.Simulate cycles seed trace ≡ settings.Simulate cycles' seed' trace'
 same_simulate cycles seed trace cycles' seed' trace' e = let a = e.0 in let b = e.1 in let d = e.2 in cc
 
+same_load : (n signals n' signals' : ℕ) → (n ≡ n') × (signals ≡ signals') → settings.Load n signals ≡ settings.Load n' signals'
+same_load n signals n' signals' e = let a = e.0 in let b = e.1 in cc
+
 one_settings : (words : List (List ℕ)) (s t : Settings) → Means words (Ok s) → Means words (Ok t) → s ≡ t
 one_settings words (settings.Restore all) (settings.Restore more) is other = same_restore all more (one_restore words is.0 is.1 other.0 other.1 all more is.2 other.2).2
 one_settings words (settings.Simulate cycles seed trace) (settings.Simulate cycles' seed' trace') is other =
     same_simulate cycles seed trace cycles' seed' trace' (one_simulation words is.0 other.0 cycles seed trace cycles' seed' trace' is.1 other.1)
 one_settings words settings.Print settings.Print is other = refl
+one_settings words (settings.Load n signals) (settings.Load n' signals') is other = same_load n signals n' signals' (one_load words n signals n' signals' is other)
 one_settings words (settings.Restore all) (settings.Simulate cycles seed trace) is other = absurd (restore_or_simulate words is.2.shaped other.1.shaped)
 one_settings words (settings.Restore all) settings.Print is other = absurd (print_or_restore words other is.2.shaped)
 one_settings words (settings.Simulate cycles seed trace) (settings.Restore all) is other = absurd (restore_or_simulate words other.2.shaped is.1.shaped)
 one_settings words (settings.Simulate cycles seed trace) settings.Print is other = absurd (print_or_simulate words other is.1.shaped)
 one_settings words settings.Print (settings.Restore all) is other = absurd (print_or_restore words is other.2.shaped)
 one_settings words settings.Print (settings.Simulate cycles seed trace) is other = absurd (print_or_simulate words is other.1.shaped)
+one_settings words (settings.Load n signals) (settings.Restore all) is other = absurd (restore_or_load words other.2.shaped is.shaped)
+one_settings words (settings.Load n signals) (settings.Simulate cycles seed trace) is other = absurd (simulate_or_load words other.1.shaped is.shaped)
+one_settings words (settings.Load n signals) settings.Print is other = absurd (print_or_load words other is.shaped)
+one_settings words (settings.Restore all) (settings.Load n signals) is other = absurd (restore_or_load words is.2.shaped other.shaped)
+one_settings words (settings.Simulate cycles seed trace) (settings.Load n signals) is other = absurd (simulate_or_load words is.1.shaped other.shaped)
+one_settings words settings.Print (settings.Load n signals) is other = absurd (print_or_load words is other.shaped)
 
 -- words have one meaning at most
 pub one_meaning : (words : List (List ℕ)) (r s : Result Settings WordRefusal) → Means words r → Means words s → r ≡ s
@@ -227,6 +260,7 @@ IsExact words r = record {
   restore : (all : Bool) → ComesWith r (Ok (settings.Restore all)) ((netlist dump : List ℕ) × Restores words netlist dump all);
   simulate : (cycles seed trace : ℕ) → ComesWith r (Ok (settings.Simulate cycles seed trace)) ((netlist : List ℕ) × Simulates words netlist cycles seed trace);
   print : ComesWith r (Ok settings.Print) (IsPrint words);
+  load : (number signals : ℕ) → ComesWith r (Ok (settings.Load number signals)) (Loads words number signals);
   usage : ComesWith r (Err refusals.Usage) (¬ IsCommand words);
   number : (place : ℕ) → ComesWith r (Err (refusals.Number place)) (IsBadNumber words place);
 }
@@ -239,6 +273,7 @@ exact_answer words r is = record {
   restore = λ all. exactly words r (Ok (settings.Restore all)) is;
   simulate = λ cycles seed trace. exactly words r (Ok (settings.Simulate cycles seed trace)) is;
   print = exactly words r (Ok settings.Print) is;
+  load = λ n signals. exactly words r (Ok (settings.Load n signals)) is;
   usage = exactly words r (Err refusals.Usage) is;
   number = λ place. exactly words r (Err (refusals.Number place)) is;
 }

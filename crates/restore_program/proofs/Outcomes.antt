@@ -1,5 +1,5 @@
 -- What follows from a dump, from what follows from a base with its literals.
-use Rattle.std.proofs.Common.{◌≡◌, ◌<◌, ◌≤◌, ℕ, Bool, List, Option, Some, sym, subst, ◌∙◌}
+use Rattle.std.proofs.Common.{◌≡◌, ◌<◌, ◌≤◌, ℕ, List, Option, Some, subst}
 use Rattle.std.specs.Prelude.{IfSome}
 use mathlib.Core.Path.{fun_ext}
 use Rattle.sr_model.specs.declared.cells.Cell.{Cell}

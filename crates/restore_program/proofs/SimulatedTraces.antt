@@ -1,14 +1,13 @@
 -- What is known from the trace of a simulated execution.
-use Rattle.std.proofs.Common.{◌≡◌, ◌<◌, ℕ, Bool, true, List, [], ◌∷◌, length, map, Some, inl, inr, arith, sym, subst, ◌∙◌}
+use Rattle.std.proofs.Common.{◌≡◌, ◌<◌, ℕ, true, List, [], ◌∷◌, length, map, Some, inl, inr, arith, sym, subst, ◌∙◌}
 use Rattle.std.specs.List.{range_with_len}
 use Rattle.std.proofs.lemmas.Bool.{or_cases, false≢true}
 use Rattle.std.proofs.lemmas.Option.{same_Some, slice_get_within, get_or_from_slice_get}
 use Rattle.std.proofs.lemmas.List.FromFn.{get_or-map-range_with_len, length-map-range_with_len}
-use Rattle.sr_model.specs.declared.cells.Cell.{Cell}
 use Rattle.sr_model.specs.declared.cells.Sig.{Sig}
 use Rattle.sr_model.specs.declared.cells.Lit.{Lit}
 use Rattle.sr_model.specs.Netlist.{Valuation, Has, cell_at}
-use Rattle.sr_model.specs.Closure.{HasBoth, IsWithin, passing}
+use Rattle.sr_model.specs.Closure.{IsWithin, passing}
 use Rattle.sr_model.specs.Dump.{dump_has}
 use Rattle.sr_model.proofs.ClosureLaws.{no_execution_has_both, sound}
 use Rattle.netlist.specs.Circuit.{unrolled_over}

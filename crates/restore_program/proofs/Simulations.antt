@@ -1,10 +1,10 @@
 -- What is found behind the files, by its place among all words.
 use Rattle.std.proofs.Common.{◌≡◌, ◌<◌, ◌+◌, ℕ, Bool, List, [], ◌-◌, length, drop, get_or, Option, Some, None, refl, sym, ap, subst, ◌∙◌, inl, inr, lit<, arith, rules}
-use Rattle.std.specs.Prelude.{All, Any, IsSome, IsTrue, codes, ◌↔◌}
+use Rattle.std.specs.Prelude.{All, Any, Contains, IsSome, IsTrue, codes, ◌↔◌}
 use Rattle.std.specs.List.{slice_get}
 use Rattle.std.proofs.lemmas.List.{length-drop}
 use Rattle.std.proofs.lemmas.Option.{slice_get_within, slice_get-get_or}
-use Rattle.restore_program.specs.Words.{CommandRule, Gives, GivesAt, IsBad, IsBadNumber, IsChosen, IsFirstBad, IsFor, IsGiven, IsNumber, IsShaped, KeyRule, Restores, Simulates, all_rule, cycles_rule, later, number, restore_rule, seed_rule, simulate_rule, trace_rule}
+use Rattle.restore_program.specs.Words.{CommandRule, Gives, GivesAt, IsBad, IsBadNumber, IsChosen, IsFirstBad, IsFor, IsGiven, IsNumber, IsShaped, KeyRule, Restores, Simulates, all_rule, command_rules, cycles_rule, later, number, restore_rule, seed_rule, simulate_rule, trace_rule}
 use Rattle.restore_program.specs.WordRules.{FindsNumber, FirstPlace, GivesNumber, IsBadFor}
 use Rattle.restore_program.proofs.OneMeaning.{read_behind}
 use Rattle.restore_program.proofs.WordPlaces.{not_any, slice_get-drop}
@@ -29,9 +29,9 @@ first_bad rule words place (word, at, (k, key, h, e, (value, gives, bad)), befor
       before inside gift.word (omega arith) there (k', key', h', e', (value', gift.gives, bad')),
 )
 
-pub bad_is_first : (words rest : List (List ℕ)) (place : ℕ) → IsShaped simulate_rule words → rest ≡ later simulate_rule words → FirstPlace (λ word. Any (IsBadFor word) simulate_rule.keys) rest (Some place) → IsBadNumber words (2 + place)
-bad_is_first words rest place shaped is first =
-    (1, simulate_rule, lit< tt, refl, (shaped, first_bad simulate_rule words place (subst (λ r. FirstPlace (λ word. Any (IsBadFor word) simulate_rule.keys) r (Some place)) is first)))
+pub bad_is_first : (rule : CommandRule) (words rest : List (List ℕ)) (place : ℕ) → Contains command_rules rule → IsShaped rule words → rest ≡ later rule words → FirstPlace (λ word. Any (IsBadFor word) rule.keys) rest (Some place)
+    → IsBadNumber words (1 + rule.files + place)
+bad_is_first rule words rest place (k, h, e) shaped is first = (k, rule, h, e, (shaped, first_bad rule words place (subst (λ r. FirstPlace (λ word. Any (IsBadFor word) rule.keys) r (Some place)) is first)))
 
 -- a number is found where the key is given and no number is bad
 pub number_found : (keys : List KeyRule) (k : ℕ) (key : KeyRule) (least most : ℕ) (rest : List (List ℕ)) (r : Option ℕ) → k < length keys → get_or keys k key ≡ key → key.takes ≡ number least most → Any (IsFor key) rest

@@ -1,26 +1,22 @@
 -- What an answer says of the executions that match the dump.
-use Rattle.std.proofs.Common.{◌≡◌, ◌⊎◌, ℕ, Bool, List, length, Option, Some, None, inl, inr, refl, sym, subst, ◌∙◌}
+use Rattle.std.proofs.Common.{◌≡◌, ℕ, Bool, List, Option, Some, None, inl, inr, refl, sym, subst, ◌∙◌}
 use Rattle.std.specs.Prelude.{IfSome}
-use Rattle.sr_model.specs.declared.cells.Lit.{Lit}
-use Rattle.sr_model.specs.declared.cells.Sig.{Sig}
-use Rattle.sr_model.specs.Netlist.{Valuation, IsExecution}
 use Rattle.sr_model.specs.Closure.{passing}
-use Rattle.sr_model.specs.Dump.{Matches, dump_has}
+use Rattle.sr_model.specs.Dump.{dump_has}
 use Rattle.sr_model.proofs.ClosureLaws.{no_execution_has_both}
 use Rattle.sr_outside.specs.Told.{Held}
-use Rattle.netlist.specs.Circuit.{Circuit, IsCircuit, unrolled_over}
-use Rattle.dump_reader.specs.Recording.{Recording}
-use Rattle.report.specs.Table.{known_rows, table_text}
+use Rattle.netlist.specs.Circuit.{Circuit, unrolled_over}
+use Rattle.report.specs.Table.{known_rows}
 use Rattle.report.proofs.CommentLine.{table_is_dump}
 use Rattle.report.proofs.KnownRows.{table_again, table_is_sound}
 use Rattle.restore_program.specs.declared.status.Status.{Status}
 use Rattle.restore_program.specs.declared.status.Status.TheVariants as statuses
 use Rattle.restore_program.specs.declared.reply.Reply.{Reply}
 use Rattle.restore_program.specs.Reply.{text_of, status_of}
-use Rattle.restore_program.specs.Requests.{restoration, simulation, printing}
+use Rattle.restore_program.specs.Requests.{restoration, simulation, printing, loading}
 use Rattle.restore_program.specs.Words.{Restores, IsRestore}
-use Rattle.restore_program.specs.Answer.{IsPlain, ReplyAnswer, Answer, usage, bad_number, asked, RefusedNetlist, netlist_too_long, bad_line, no_netlist, OnNetlist, OnRefused, IsNetlistOf, DumpAnswer, OnDump, dump_too_long, bad_dump, clash, table, traced_count}
-use Rattle.restore_program.specs.Sound.{Accepts, IsAccepted, IsDumpAgain, IsPrintable, IsSoundTable, IsTableOrClash, IsTraceable, NoneMatches}
+use Rattle.restore_program.specs.Answer.{IsPlain, ReplyAnswer, Answer, usage, bad_number, asked, netlist_too_long, bad_line, no_netlist, OnNetlist, OnRefused, IsNetlistOf, DumpAnswer, OnDump, dump_too_long, bad_dump, clash, table, traced_count}
+use Rattle.restore_program.specs.Sound.{IsAccepted, IsDumpAgain, IsPrintable, IsSoundTable, IsTableOrClash, IsTraceable, NoneMatches}
 use Rattle.restore_program.specs.Tracing.{OnTrace, unknown_name, name_twice, many_cells, traced}
 use Rattle.restore_program.proofs.OneAnswer.{accepted_is_answered, answer_to, clash_known, is_circuit, printable_is_printed, traceable_is_traced}
 
@@ -101,6 +97,7 @@ clash_answer words held text status (asked (simulation netlist cycles seed list)
 clash_answer words held text status (asked (simulation netlist cycles seed list) t k asks (inr (c, is, on))) e = absurd (no_clash_trace c cycles seed list t k on e)
 clash_answer words held text status (asked (printing netlist) t k asks (inl refused)) e = absurd (no_refused_clash held netlist t k refused e)
 clash_answer words held text status (asked (printing netlist) t k asks (inr (c, is, (same, done)))) e = let wrong = sym done ∙ e in absurd cc
+clash_answer words held text status (asked (loading number signals) t k asks (loaded, done)) e = let wrong = sym done ∙ e in absurd cc
 
 -- ---- what a reply says
 

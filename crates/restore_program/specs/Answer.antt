@@ -35,8 +35,9 @@ use Rattle.restore_program.specs.declared.reply.Reply.{Reply}
 use Rattle.restore_program.specs.declared.reply.Reply.TheVariants as replies
 use Rattle.restore_program.specs.declared.status.Status.{Status}
 use Rattle.restore_program.specs.declared.status.Status.TheVariants as statuses
+use Rattle.restore_program.specs.Loading.{IsLoadText}
 use Rattle.restore_program.specs.Reply.{text_of, status_of}
-use Rattle.restore_program.specs.Requests.{Request, Asks, restoration, simulation, printing}
+use Rattle.restore_program.specs.Requests.{Request, Asks, restoration, simulation, printing, loading}
 use Rattle.restore_program.specs.Words.{IsBadNumber, IsCommand}
 use Rattle.restore_program.specs.Tracing.{OnTrace}
 
@@ -115,11 +116,16 @@ OnNetlist held netlist P text status = OnRefused held netlist text status ⊎ ((
 abbrev pub OnPrint : Circuit → List ℕ → Status → Type 0
 OnPrint c text status = (text ≡ bench_text c) × (status ≡ statuses.Done)
 
+-- what follows in a netlist that is drawn from a number; no input is read for it
+abbrev pub OnLoad : ℕ → ℕ → List ℕ → Status → Type 0
+OnLoad number signals text status = IsLoadText number signals text × (status ≡ statuses.Done)
+
 -- on what is asked for
 abbrev pub RequestAnswer : Held → Request → List ℕ → Status → Type 0
 RequestAnswer held (restoration netlist dump all) = OnNetlist held netlist (λ c. DumpAnswer held c dump all)
 RequestAnswer held (simulation netlist cycles seed list) = OnNetlist held netlist (λ c. OnTrace c cycles seed list)
 RequestAnswer held (printing netlist) = OnNetlist held netlist OnPrint
+RequestAnswer held (loading number signals) = OnLoad number signals
 
 -- on all words; there is none where an input that is come to is not held
 pub data Answer (words : List (List ℕ)) (held : Held) : List ℕ → Status → Type 0 where
@@ -181,6 +187,7 @@ abbrev pub AreSteadyFor : Option Held → Option (List ℕ → Bool) → Request
 AreSteadyFor told shaky (restoration netlist dump all) = IsSteady told shaky netlist × IsSteady told shaky dump
 AreSteadyFor told shaky (simulation netlist cycles seed list) = IsSteady told shaky netlist
 AreSteadyFor told shaky (printing netlist) = IsSteady told shaky netlist
+AreSteadyFor told shaky (loading number signals) = ⊤
 
 -- and so of all that the words may ask for
 abbrev pub AreSteady : Option Held → Option (List ℕ → Bool) → List (List ℕ) → Type 0
@@ -209,6 +216,7 @@ abbrev pub IsRequestFault : Option Held → Option (List ℕ → Bool) → Reque
 IsRequestFault told shaky (restoration netlist dump all) = IsRestoreFault told shaky netlist dump
 IsRequestFault told shaky (simulation netlist cycles seed list) = IsNetlistFault told shaky netlist
 IsRequestFault told shaky (printing netlist) = IsNetlistFault told shaky netlist
+IsRequestFault told shaky (loading number signals) = λ part. ⊥
 
 abbrev pub IsWordsFault : List (List ℕ) → Option Held → Option (List ℕ → Bool) → Part → Type 0
 IsWordsFault words told shaky part = (request : Request) × Asks words request × IsRequestFault told shaky request part

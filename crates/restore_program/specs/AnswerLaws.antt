@@ -5,7 +5,7 @@ use Rattle.sr_model.specs.declared.cells.Sig.{Sig}
 use Rattle.sr_model.specs.Closure.{HasBoth, IsWithin}
 use Rattle.sr_model.specs.Netlist.{Valuation, Has}
 use Rattle.sr_outside.specs.Told.{Held}
-use Rattle.netlist.specs.Circuit.{Circuit, IsCircuit}
+use Rattle.netlist.specs.Circuit.{Circuit}
 use Rattle.dump_reader.specs.Recording.{Recording}
 use Rattle.cycle_sim.specs.BitTable.{BitTable}
 use Rattle.cycle_sim.specs.Simulation.{IsSimulated, traced_rows}

@@ -1,5 +1,6 @@
 pub mod Answer
 pub mod AnswerLaws
+pub mod Loading
 pub mod Outcome
 pub mod Printing
 pub mod Reply

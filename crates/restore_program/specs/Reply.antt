@@ -1,5 +1,5 @@
 -- The text and the status of each reply.
-use Rattle.std.specs.Prelude.{ℕ, ◌≡◌, ◌<◌, ◌≤◌, ⊤, List, length}
+use Rattle.std.specs.Prelude.{ℕ, ◌<◌, ◌≤◌, ⊤, List, length}
 use Rattle.sr_model.specs.declared.cells.Cell.{Cell}
 use Rattle.sr_model.specs.Closure.{HasBoth, passing}
 use Rattle.bench_reader.specs.declared.reader.BenchRefusal.{BenchRefusal}
@@ -19,6 +19,7 @@ use Rattle.report.specs.declared.refusal.Refusal.TheVariants as refusals
 use Rattle.report.specs.Clash.{clash_line}
 use Rattle.report.specs.Refusals.{AreThere, refusal_line}
 use Rattle.report.specs.Table.{table_text}
+use Rattle.restore_program.specs.Loading.{loaded_line}
 use Rattle.restore_program.specs.declared.reply.Table.{Table}
 use Rattle.restore_program.specs.declared.reply.Reply.{Reply}
 use Rattle.restore_program.specs.declared.reply.Reply.TheVariants as replies
@@ -43,6 +44,7 @@ IsReady words (replies.Refused refusal) = AreThere words refusal
 IsReady words (replies.Known table) = IsTable table
 IsReady words (replies.Clash netlist cell) = cell.sig.0 < length netlist.drivers
 IsReady words (replies.Text text) = ⊤
+IsReady words (replies.Load loaded) = ⊤
 
 -- the text that is written of a reply on these words
 abbrev pub text_of : List (List ℕ) → Reply → List ℕ
@@ -50,6 +52,7 @@ text_of words (replies.Refused refusal) = refusal_line words refusal
 text_of words (replies.Known table) = table_text table.netlist table.cycles (has (unrolling_of table) table.planes) table.traced table.all
 text_of words (replies.Clash netlist cell) = clash_line netlist cell
 text_of words (replies.Text text) = text.items
+text_of words (replies.Load loaded) = loaded_line loaded
 
 -- the status of a refused input
 abbrev pub part_status : Part → Status
@@ -85,3 +88,4 @@ status_of (replies.Refused refusal) = refusal_status refusal
 status_of (replies.Known table) = statuses.Done
 status_of (replies.Clash netlist cell) = statuses.Contradiction
 status_of (replies.Text text) = statuses.Done
+status_of (replies.Load loaded) = statuses.Done

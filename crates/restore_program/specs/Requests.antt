@@ -1,13 +1,14 @@
 -- What words can ask for.
 use Rattle.std.specs.Prelude.{ℕ, Bool, List}
-use Rattle.restore_program.specs.Words.{Restores, Simulates, Prints, GivesAt, simulate_rule, trace_rule}
+use Rattle.restore_program.specs.Words.{Restores, Simulates, Prints, Loads, GivesAt, simulate_rule, trace_rule}
 
 -- the restoration of a dump, with the rows of all signals or of the flip-flops alone; a run of so many cycles from a seed, with a trace of the signals that a list names;
--- or a netlist's text
+-- a netlist's text; or what follows in a netlist of so many signals that is drawn from a number
 pub data Request : Type 0 where
   restoration : (netlist dump : List ℕ) (all : Bool) → Request
   simulation : (netlist : List ℕ) (cycles seed : ℕ) (list : List ℕ) → Request
   printing : (netlist : List ℕ) → Request
+  loading : (number signals : ℕ) → Request
 
 -- the words ask for a run, and the list is the value of their word `trace=..`
 abbrev pub Traces : List (List ℕ) → List ℕ → ℕ → ℕ → List ℕ → Type 0
@@ -17,3 +18,4 @@ abbrev pub Asks : List (List ℕ) → Request → Type 0
 Asks words (restoration netlist dump all) = Restores words netlist dump all
 Asks words (simulation netlist cycles seed list) = Traces words netlist cycles seed list
 Asks words (printing netlist) = Prints words netlist
+Asks words (loading number signals) = Loads words number signals

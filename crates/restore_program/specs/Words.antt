@@ -44,8 +44,17 @@ simulate_rule = record { name = codes "simulate"; files = 1; keys = cycles_rule 
 abbrev pub print_rule : CommandRule
 print_rule = record { name = codes "print"; files = 1; keys = [] }
 
+abbrev pub number_rule : KeyRule
+number_rule = record { name = codes "number"; required = true; takes = number 0 (2 ^ 64 - 1) }
+
+abbrev pub signals_rule : KeyRule
+signals_rule = record { name = codes "signals"; required = true; takes = number 16 65536 }
+
+abbrev pub load_rule : CommandRule
+load_rule = record { name = codes "load"; files = 0; keys = number_rule ∷ signals_rule ∷ [] }
+
 abbrev pub command_rules : List CommandRule
-command_rules = restore_rule ∷ simulate_rule ∷ print_rule ∷ []
+command_rules = restore_rule ∷ simulate_rule ∷ print_rule ∷ load_rule ∷ []
 
 -- ---- words
 
@@ -151,6 +160,12 @@ pub record Simulates (words : List (List ℕ)) (netlist : List ℕ) (cycles seed
   pub has_cycles : IsGiven simulate_rule words cycles_rule cycles
   pub has_seed : IsGiven simulate_rule words seed_rule seed
   pub has_trace : (value : List ℕ) × GivesAt simulate_rule words trace trace_rule value
+
+-- the words ask for what follows in the netlist that is drawn from this number, with so many signals
+pub record Loads (words : List (List ℕ)) (number signals : ℕ) : Type 0 where
+  pub shaped : IsShaped load_rule words
+  pub has_number : IsGiven load_rule words number_rule number
+  pub has_signals : IsGiven load_rule words signals_rule signals
 
 -- the words are `restore` and what it takes
 abbrev pub IsRestore : List (List ℕ) → Type 0

@@ -2,6 +2,7 @@
 #![tactic(auto)]
 
 mod laws;
+mod load;
 mod netlists;
 mod print;
 mod reply;

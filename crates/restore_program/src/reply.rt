@@ -4,6 +4,7 @@ ghost use Rattle.std.specs.String.{string_bytes};
 ghost use Rattle.known_planes.specs.Planes.{has};
 ghost use Rattle.report.specs.Table.{table_text};
 ghost use Rattle.report.specs.Writes.{Writes};
+ghost use Rattle.restore_program.specs.Loading.{loaded_line};
 ghost use Rattle.restore_program.specs.Reply.{IsReady, IsTable, unrolling_of, text_of, status_of, refusal_status, part_status, bench_status, net_status, dump_status};
 
 use crate::status::Status;
@@ -11,7 +12,8 @@ use bench_reader::BenchRefusal;
 use dump_reader::DumpRefusal;
 use known_planes::Planes;
 use netlist::{NetRefusal, Netlist};
-use report::{Part, Refusal, RowBuf, write_clash, write_refusal, write_table};
+use ratio::Ratio;
+use report::{Part, Refusal, RowBuf, write_clash, write_load, write_refusal, write_table};
 use sr_model::{Bytes, Cell};
 use sr_outside::{Sink, WriteFault, write_all};
 use unroll::Problem;
@@ -29,6 +31,15 @@ pub struct Table {
     pub(crate) buf: RowBuf,
 }
 
+/// What follows from the trace of a netlist that is drawn from a number.
+#[derive(Clone, Copy)]
+pub struct Loaded {
+    pub(crate) number: u64,
+    pub(crate) signals: u32,
+    pub(crate) flip_flops: u32,
+    pub(crate) ratio: Ratio,
+}
+
 /// What a run writes.
 #[derive(Drop)]
 pub enum Reply {
@@ -40,6 +51,8 @@ pub enum Reply {
     Clash { netlist: Netlist, cell: Cell },
     /// A netlist's text or a dump's.
     Text { text: Bytes },
+    /// The line of a load netlist.
+    Load { loaded: Loaded },
 }
 
 /// The status of a reply that was written whole.
@@ -49,7 +62,7 @@ pub(crate) fn reply_status(reply: &Reply) -> Status
     match reply {
         Reply::Refused { refusal } => refusal_status(refusal),
         Reply::Clash { .. } => Status::Contradiction,
-        Reply::Known { .. } | Reply::Text { .. } => Status::Done,
+        Reply::Known { .. } | Reply::Text { .. } | Reply::Load { .. } => Status::Done,
     }
 }
 
@@ -120,6 +133,7 @@ pub(crate) fn write_reply<K: Sink>(
         Reply::Known { table } => write_known(table, out),
         Reply::Clash { netlist, cell } => write_clash(netlist, *cell, out),
         Reply::Text { text } => write_text(text.as_slice(), out),
+        Reply::Load { loaded } => write_loaded(*loaded, out),
     }
 }
 
@@ -135,6 +149,19 @@ fn write_known<K: Sink>(table: &mut Table, out: &mut K) -> Result<(), WriteFault
         table.traced,
         table.all,
         &mut table.buf,
+        out,
+    )
+}
+
+/// Writes the line of a load netlist.
+fn write_loaded<K: Sink>(loaded: Loaded, out: &mut K) -> Result<(), WriteFault>
+    ensures { Writes (K.written out.old) (K.written out.new) (K.room out.new) (K.faults out.old) (K.faults out.new) result (loaded_line loaded) }
+{
+    write_load(
+        loaded.number,
+        loaded.signals,
+        loaded.flip_flops,
+        &loaded.ratio,
         out,
     )
 }

@@ -7,6 +7,7 @@ use std::process::Abort;
 use std::test::*;
 use std::thread::Threads;
 
+mod loads;
 mod simulations;
 
 const GATES: &[u8] = b"INPUT(a)\nINPUT(b)\nn = NOT(a)\ng = AND(n, b)\nq = DFF(g)\nr = DFF(n)\n";

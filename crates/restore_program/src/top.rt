@@ -10,6 +10,7 @@ ghost use Rattle.restore_program.specs.Answer.{AreRefused, AreSteady, IsFault, I
 ghost use Rattle.restore_program.specs.Reply.{IsReady, status_of};
 ghost use Rattle.restore_program.specs.Sound.{IsAccepted, IsDumpAgain, IsPrintable, IsSoundTable, IsTableOrClash, IsTraceable, NoneMatches};
 
+use crate::load::load_reply;
 use crate::print::print_reply;
 use crate::reply::{Reply, reply_status, write_reply};
 use crate::restore::restore_reply;
@@ -128,6 +129,7 @@ fn reply_to<R: Threads + Sync, I: Inputs, C: Closer>(
             trace_list(words[trace as usize].as_str()),
         ),
         Ok(Settings::Print) => print_reply(alloc, inputs, words[1].as_str()),
+        Ok(Settings::Load { number, signals }) => load_reply(rt, alloc, closer, number, signals),
         Err(refusal) => Reply::Refused {
             refusal: Refusal::Words { refusal },
         },

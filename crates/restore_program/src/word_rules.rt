@@ -74,3 +74,27 @@ pub(crate) const PRINT: Command = Command {
     files: 1,
     keys: &[],
 };
+
+pub(crate) const NUMBER: Key = Key {
+    name: "number",
+    required: true,
+    takes: Takes::Number {
+        least: 0,
+        most: u64::MAX,
+    },
+};
+
+pub(crate) const SIGNALS: Key = Key {
+    name: "signals",
+    required: true,
+    takes: Takes::Number {
+        least: 16,
+        most: 65536,
+    },
+};
+
+pub(crate) const LOAD: Command = Command {
+    name: "load",
+    files: 0,
+    keys: &[NUMBER, SIGNALS],
+};

@@ -2,13 +2,15 @@
 ghost use Rattle.std.specs.Prelude.{◌≡◌, ◌↔◌, ◌<◌, Bool, IsTrue, ℕ, List, Some, Ok, Err, map, length};
 ghost use Rattle.std.specs.List.{slice_get};
 ghost use Rattle.std.specs.String.{string_bytes};
-ghost use Rattle.restore_program.specs.Words.{IsBadNumber, IsCommand, IsPrint, IsShaped, Restores, Simulates, simulate_rule};
+ghost use Rattle.restore_program.specs.Words.{IsBadNumber, IsCommand, IsPrint, IsShaped, Loads, Restores, Simulates, load_rule, simulate_rule};
 ghost use Rattle.restore_program.specs.WordRules.{command_rule_of};
 ghost use Rattle.restore_program.specs.WordMeaning.{Means};
 
 use crate::word_keys::{is_chosen, place_of, suit_all};
 use crate::word_numbers::{bad_number, number_of};
-use crate::word_rules::{ALL, CYCLES, Command, PRINT, RESTORE, SEED, SIMULATE, TRACE};
+use crate::word_rules::{
+    ALL, CYCLES, Command, LOAD, NUMBER, PRINT, RESTORE, SEED, SIGNALS, SIMULATE, TRACE,
+};
 use report::WordRefusal;
 
 #[cfg(test)]
@@ -23,6 +25,8 @@ pub enum Settings {
     Simulate { cycles: u32, seed: u64, trace: u32 },
     /// The text of a netlist: the word that follows.
     Print,
+    /// What follows in the netlist that is drawn from this number, with so many signals.
+    Load { number: u64, signals: u32 },
 }
 
 /// What the words of the command line, without the program's name, ask for. The first word is the command. Its files follow, and any text may
@@ -32,6 +36,8 @@ pub enum Settings {
 /// - `simulate NET`, with three keys, each of which has to be given: `cycles`, a number from 1 to 8,192; `seed`, any number below 2^64; and
 ///   `trace`, one or more names that are not empty, parted by commas.
 /// - `print NET`, with no keys.
+/// - `load`, with no files and two keys, each of which has to be given: `number`, any number below 2^64; and `signals`, a number from 16 to
+///   65,536.
 ///
 /// It takes no memory, and the time is linear in the words' length.
 pub fn read_words(words: &[String]) -> Result<Settings, WordRefusal>
@@ -40,6 +46,7 @@ pub fn read_words(words: &[String]) -> Result<Settings, WordRefusal>
     ensures simulate { (cycles seed trace : ℕ) → (result ≡ Ok (Settings.Simulate cycles seed trace))
         ↔ ((netlist : List ℕ) × Simulates (map string_bytes words.now) netlist cycles seed trace) }
     ensures print { (result ≡ Ok Settings.Print) ↔ IsPrint (map string_bytes words.now) }
+    ensures load { (number signals : ℕ) → (result ≡ Ok (Settings.Load number signals)) ↔ Loads (map string_bytes words.now) number signals }
 
     // The shape is that of no command.
     ensures usage { (result ≡ Err WordRefusal.Usage) ↔ (¬ IsCommand (map string_bytes words.now)) }
@@ -54,6 +61,8 @@ pub fn read_words(words: &[String]) -> Result<Settings, WordRefusal>
         read_simulate(words)
     } else if is_shaped(words, &PRINT) {
         Ok(Settings::Print)
+    } else if is_shaped(words, &LOAD) {
+        read_load(words)
     } else {
         Err(WordRefusal::Usage)
     }
@@ -89,5 +98,23 @@ fn read_simulate(words: &[String]) -> Result<Settings, WordRefusal>
         cycles: number_of(keyed, &CYCLES).unwrap() as u32,
         seed: number_of(keyed, &SEED).unwrap(),
         trace: (first + place_of(keyed, &TRACE).unwrap()) as u32,
+    })
+}
+
+/// What the words of a `load` say.
+fn read_load(words: &[String]) -> Result<Settings, WordRefusal>
+    requires { IsShaped load_rule (map string_bytes words.now) }
+    ensures { Means (map string_bytes words.now) result }
+{
+    let first = 1 + LOAD.files;
+    let keyed = &words[first..];
+    if let Some(place) = bad_number(keyed, LOAD.keys) {
+        return Err(WordRefusal::Number {
+            place: (first + place) as u32,
+        });
+    }
+    Ok(Settings::Load {
+        number: number_of(keyed, &NUMBER).unwrap(),
+        signals: number_of(keyed, &SIGNALS).unwrap() as u32,
     })
 }

@@ -47,6 +47,21 @@ fn shapes(rt: HostRuntime) -> Result<(), Fail> {
         "simulate net cycles=1 seed=0 trace=a,b,",
         "simulate net cycles=0 seed=0 trace=",
         "simulate net cycles=0 cycles=1 seed=0 trace=a",
+        "load",
+        "load number=1",
+        "load signals=16",
+        "load number=1 number=1 signals=16",
+        "load number=1 signals=16 signals=17",
+        "load net number=1 signals=16",
+        "load number=1 signals=16 net",
+        "load number=1 signals=16 workers=1",
+        "load number=1 signals=16 cycles=1",
+        "load number=1 signals",
+        "load number=1 Signals=16",
+        "Load number=1 signals=16",
+        "number=1 load signals=16",
+        "load number=x signals=16 workers=1",
+        "print net number=1 signals=16",
     ];
     for line in lines {
         let words = words_of(rt.alloc(), line)?;
@@ -66,6 +81,14 @@ fn numbers(rt: HostRuntime) -> Result<(), Fail> {
         ("simulate net seed=+1 trace=a cycles=1", 2),
         ("simulate net seed=1= cycles=-1 trace=a", 2),
         ("simulate net trace=a cycles=1x seed=x", 3),
+        ("load number=1 signals=15", 2),
+        ("load number=1 signals=65537", 2),
+        ("load signals=15 number=1", 1),
+        ("load number=18446744073709551616 signals=16", 1),
+        ("load signals=16 number=18446744073709551616", 2),
+        ("load number=01 signals=16", 1),
+        ("load number= signals=", 1),
+        ("load signals=016 number=-1", 1),
     ];
     for (line, place) in lines {
         let words = words_of(rt.alloc(), line)?;
@@ -107,6 +130,35 @@ fn commands(rt: HostRuntime) -> Result<(), Fail> {
                 trace: 2,
             },
         ),
+        (
+            "load number=1 signals=1600",
+            Settings::Load {
+                number: 1,
+                signals: 1600,
+            },
+        ),
+        (
+            "load signals=1600 number=1",
+            Settings::Load {
+                number: 1,
+                signals: 1600,
+            },
+        ),
+        (
+            "load number=0 signals=16",
+            Settings::Load {
+                number: 0,
+                signals: 16,
+            },
+        ),
+        (
+            "load signals=65536 number=18446744073709551615",
+            Settings::Load {
+                number: u64::MAX,
+                signals: 65536,
+            },
+        ),
+        ("print load", Settings::Print),
     ];
     for (line, settings) in lines {
         let words = words_of(rt.alloc(), line)?;

@@ -1,6 +1,6 @@
 use Rattle.std.proofs.Common.{ℕ, ◌≡◌, ◌<◌, ◌+◌, ◌*◌, false, length, get_or, arith, sym, ap, subst, ◌∙◌}
 use Rattle.std.proofs.lemmas.List.{with_items_is}
-use Rattle.cycle_sim.specs.Drawing.{generator_at}
+use Rattle.cycle_sim.specs.Words.{generator_at}
 use Rattle.cycle_sim.proofs.Drawn.{drawn-none, next-row, row-drawn}
 use Rattle.cycle_sim.proofs.drawing.stimulus.Goals as goal
 
@@ -24,7 +24,7 @@ loop-cycle-preserved c =
       c.set_row.ensures.width ∙ c.loop-cycle.invariant.0,
       c.set_row.ensures.count ∙ c.loop-cycle.invariant.1,
       ap length row_is ∙ c.draw.ensures.size ∙ long,
-      drawn.0 ∙ ap (λ n. generator_at c.args.seed (c.loop-cycle.cycle * inputs + n)) long ∙ ap (generator_at c.args.seed) (next-row c.loop-cycle.cycle inputs),
+      drawn.0 ∙ ap (λ n. generator_at 1 c.args.seed (c.loop-cycle.cycle * inputs + n)) long ∙ ap (generator_at 1 c.args.seed) (next-row c.loop-cycle.cycle inputs),
       row-drawn c.args.seed inputs c.loop-cycle.cycle c.loop-cycle.bits c.set_row.new.self c.as_slice.result.now size c.loop-cycle.invariant.0 c.set_row.ensures.here c.set_row.ensures.elsewhere
           (λ j h. ap (λ xs. get_or xs j false) slice ∙ drawn.1 j (subst (λ n. j < n) (sym long) h)) c.loop-cycle.invariant.4,
     )

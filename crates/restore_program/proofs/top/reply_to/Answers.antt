@@ -1,12 +1,12 @@
-use Rattle.std.proofs.Common.{◌<◌, ◌∙◌, List, ℕ, ap, sym, subst, arith, rules, get_or, length, refl, inl, inr}
+use Rattle.std.proofs.Common.{List, ℕ, ap, arith, refl, inl, inr}
 use Rattle.std.specs.Prelude.{map, Ok, Err}
 use Rattle.std.specs.String.{string_bytes}
 use Rattle.std.proofs.lemmas.List.{length-map}
 use Rattle.restore_program.specs.Answer.{IsNetlistFault, IsRestoreFault, IsWordsFault}
-use Rattle.restore_program.specs.Requests.{Asks, Traces, restoration, simulation, printing}
-use Rattle.restore_program.specs.WordMeaning.{Means}
+use Rattle.restore_program.specs.Requests.{Traces, loading, restoration, simulation, printing}
 use Rattle.restore_program.specs.Words.{IsPrint, Prints, Restores, Simulates}
-use Rattle.restore_program.proofs.Answering.{answers_asked, answers_refused, faults_also, refused_as, refused_ready, words_refused}
+use Rattle.restore_program.proofs.Answering.{answers_asked, answers_refused, faults_also, refused_as, refused_ready, told_or_not, words_refused}
+use Rattle.restore_program.proofs.AskedLoad.{load_never_refused, load_size}
 use Rattle.restore_program.proofs.AskedRestore.{restore_files, restore_never_refused, restores_seen}
 use Rattle.restore_program.proofs.AskedSimulation.{cycles_counted, has_list, listed, never_refused, same_netlist, trace_within, traces_list}
 use Rattle.restore_program.proofs.CommandWords.{asked_print}
@@ -172,3 +172,34 @@ returns-in-Ok-Simulate-clause-steady g c =
     let asked : Traces words c.as_str-in-Ok-Simulate.result.now c.in-Ok-Simulate.cycles c.in-Ok-Simulate.seed c.trace_list.result.now =
     traces_list string_bytes c.args.words.now c.as_str-in-Ok-Simulate.result.now c.in-Ok-Simulate.cycles c.in-Ok-Simulate.seed c.in-Ok-Simulate.trace run c.index-words-trace.result c.as_str-in-Ok-Simulate-2.result.now c.index-words-trace.is c.as_str-in-Ok-Simulate-2.ensures.value c.trace_list.result.now c.trace_list.ensures in
     λ steady. c.simulate_reply.ensures.steady (steady (simulation c.as_str-in-Ok-Simulate.result.now c.in-Ok-Simulate.cycles c.in-Ok-Simulate.seed c.trace_list.result.now) asked)
+
+-- ---- load
+
+pub load_reply-requires-after_bounds : goal.load_reply-requires-after_bounds
+load_reply-requires-after_bounds g c κs within =
+    load_size (map string_bytes c.args.words.now) c.in-Ok-Load.number c.in-Ok-Load.signals ((c.in-Ok-Load.ensures.load c.in-Ok-Load.number c.in-Ok-Load.signals).0 (ap Ok c.in-Ok-Load.field-0-is))
+
+pub returns-in-Ok-Load-clause-answer : goal.returns-in-Ok-Load-clause-answer
+returns-in-Ok-Load-clause-answer g c =
+    answers_asked (g.I.Inputs.held c.args.inputs.now) (map string_bytes c.args.words.now) (loading c.in-Ok-Load.number c.in-Ok-Load.signals) c.load_reply.result
+    ((c.in-Ok-Load.ensures.load c.in-Ok-Load.number c.in-Ok-Load.signals).0 (ap Ok c.in-Ok-Load.field-0-is))
+    (told_or_not (g.I.Inputs.held c.args.inputs.now) _ (λ held. c.load_reply.ensures.answer (map string_bytes c.args.words.now)))
+
+pub returns-in-Ok-Load-clause-ready : goal.returns-in-Ok-Load-clause-ready
+returns-in-Ok-Load-clause-ready g c = c.load_reply.ensures.ready (map string_bytes c.args.words.now)
+
+pub returns-in-Ok-Load-clause-refused : goal.returns-in-Ok-Load-clause-refused
+returns-in-Ok-Load-clause-refused g c =
+    λ refused. absurd (load_never_refused string_bytes c.args.words.now c.in-Ok-Load.number c.in-Ok-Load.signals ((c.in-Ok-Load.ensures.load c.in-Ok-Load.number c.in-Ok-Load.signals).0 (ap Ok c.in-Ok-Load.field-0-is)) refused)
+
+-- ---- the places of the files
+
+pub bounds-words-1 : goal.bounds-words-1
+bounds-words-1 g c =
+    let is = (c.in-Ok-Restore.ensures.restore c.in-Ok-Restore.all).0 (ap Ok c.in-Ok-Restore.field-0-is) in
+    let few = restore_files string_bytes c.args.words.now is.0 is.1 c.in-Ok-Restore.all is.2 in omega (arith, few)
+
+pub bounds-words-1-in-Ok-Simulate : goal.bounds-words-1-in-Ok-Simulate
+bounds-words-1-in-Ok-Simulate g c =
+    let is = (c.in-Ok-Simulate.ensures.simulate c.in-Ok-Simulate.cycles c.in-Ok-Simulate.seed c.in-Ok-Simulate.trace).0 (ap Ok c.in-Ok-Simulate.field-0-is) in
+    omega (arith, is.1.shaped.files, length-map c.args.words.now string_bytes)

@@ -3,6 +3,7 @@ use Rattle.std.proofs.lemmas.List.{length-map}
 use Rattle.std.specs.String.{string_bytes}
 use Rattle.restore_program.specs.Words.{cycles_rule, seed_rule, simulate_rule, trace_rule, IsFor}
 use Rattle.restore_program.specs.WordRules.{IsBadFor}
+use Rattle.restore_program.proofs.CommandShapes.{simulate_is_one}
 use Rattle.restore_program.proofs.FewWords.{few_words}
 use Rattle.restore_program.proofs.Simulations.{bad_is_first, cycles_given, given_number, given_text, number_found, place_found, place_within, seed_given, simulates, trace_given}
 use Rattle.restore_program.proofs.WordPlaces.{drop_images}
@@ -12,7 +13,7 @@ pub returns-in-Some : goal.returns-in-Some
 returns-in-Some c =
     let text = string_bytes {Z = Global} in
     let words = c.args.words.now in
-    bad_is_first (map text words) (map text (take (length words - 2) (drop 2 words))) c.in-Some.place c.requires (drop_images text 2 words) c.in-Some.ensures
+    bad_is_first simulate_rule (map text words) (map text (take (length words - 2) (drop 2 words))) c.in-Some.place simulate_is_one c.requires (drop_images text 2 words) c.in-Some.ensures
 
 pub overflow_cast-result : goal.overflow_cast-result
 overflow_cast-result c =
