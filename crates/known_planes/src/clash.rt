@@ -5,7 +5,7 @@ ghost use Rattle.sr_model.specs.Closure.{HasBoth};
 ghost use Rattle.unroll.specs.Bits.{is_set};
 ghost use Rattle.unroll.specs.Problem.{signals_in};
 ghost use Rattle.known_planes.specs.Planes.{IsOf, lits};
-ghost use Rattle.known_planes.specs.Clash.{IsLeastClash, has_both_at};
+ghost use Rattle.known_planes.specs.Clash.{has_both_at};
 
 use crate::planes::{Planes, is_set};
 use sr_model::{Cell, Sig};
