@@ -14,7 +14,7 @@ part_of_other cells known same more [] in_known on_cells = All-nil same
 part_of_other cells known same more (l ∷ part) in_known on_cells =
     let here : same l = more l (All-head (λ x. Contains cells x.cell) l part on_cells) (All-head known l part in_known) in
     All-cons same l part here
-        (part_of_other cells known same more part (All-tail known l part in_known) (All-tail (λ x. Contains cells x.cell) l part on_cells))
+    (part_of_other cells known same more part (All-tail known l part in_known) (All-tail (λ x. Contains cells x.cell) l part on_cells))
 
 pub forced_by_cells : (i : Instance) (known same : LitSet) → ((l : Lit) → Contains (cells_of i) l.cell → known l → same l) → IsWithin (Forces i known) (Forces i same)
 forced_by_cells i known same more l f = record {

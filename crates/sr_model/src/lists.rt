@@ -74,6 +74,10 @@ impl<T: Drop> Sequence<T> {
         ensures below_room { length self.old.items < self.old.room → IsOk result }
         ensures same_room { length self.old.items < self.old.room → self.new.room ≡ self.old.room }
     {
+        if self.items.len() < self.items.capacity() {
+            self.items.push_reserved(item);
+            return Ok(());
+        }
         match self.items.push(item) {
             Ok(()) => Ok(()),
             Err(AllocFailed { value: _ }) => Err(NoMemory),
