@@ -47,19 +47,6 @@ abbrev pub HasChunks : Unrolling → PlaneSet → Sig → List Tri → ℕ → P
 HasChunks u old s cells chunk planes =
     (l : Lit) → has u planes l ≡ (has u old l || (eqb s.0 l.cell.sig.0 && ltb (l.cell.cycle / 64) chunk && is_bit (slice_get (map bit_of cells) l.cell.cycle) l.bit))
 
--- the words of a row's cells in a chunk have no further bit
-pub cells-none : (u : Unrolling) (chunk : ℕ) (cells : List Tri) (start end : ℕ) (words : PinWord) → start ≡ 64 * chunk → end ≡ min (length cells) (start + 64) → length cells ≡ u.cycles
-    → ((bit : Bool) (i : ℕ) → is_set (word_for bit words) i ≡ is_bit (slice_get (map bit_of (slice_range cells start end)) i) bit)
-    → HasNoFurtherBit u chunk words
-cells-none u chunk cells start end words start_is end_is size says bit i few set =
-    elim (cases_lt (64 * chunk + i) u.cycles) [
-      | inl h ↦ lt-ltb (64 * chunk + i) u.cycles h
-      | inr past ↦
-          let none : is_bit (slice_get (map bit_of cells) (start + i)) bit ≡ false = no-bit-past cells (start + i) bit (omega (arith, start_is, size, past)) in
-          let same : is_set (word_for bit words) i ≡ is_bit (slice_get (map bit_of cells) (start + i)) bit = says bit i ∙ ap (λ x. is_bit x bit) (chunk-cell cells start end i end_is few) in
-          absurd (cc (none, same, set))
-    ]
-
 distribute : (e o w : Bool) → (e && (o || w)) ≡ ((e && o) || (e && w))
 distribute true o w = refl
 distribute false o w = refl

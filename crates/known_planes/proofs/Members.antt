@@ -59,14 +59,6 @@ pub set-is : (u : Unrolling) (planes : PlaneSet) (s : Sig) (chunk : ℕ) (w : Pi
     → new ≡ with_words planes (block_at u s chunk) w
 set-is u planes s chunk w of new is = is ∙ ap (λ n. with_words planes (record { 0 = s.0 * n + chunk }) w) of.chunks
 
--- and those of a block
-pub set-block : (u : Unrolling) (planes : PlaneSet) (b : Block) (w : PinWord) → IsOf u planes → (s : Sig) → s ≡ sig_at u b → (chunk : ℕ) → chunk ≡ chunk_at u b → (new : PlaneSet)
-    → new ≡ record { signals = planes.signals; chunks = planes.chunks; words = set planes.words (s.0 * planes.chunks + chunk) w }
-    → new ≡ with_words planes b w
-set-block u planes b w of s s_is chunk chunk_is new is =
-    set-is u planes s chunk w of new is ∙ ap (λ t. with_words planes (block_at u t chunk) w) s_is
-    ∙ ap (λ n. with_words planes (block_at u (sig_at u b) n) w) chunk_is ∙ ap (λ x. with_words planes x w) (block-itself u b)
-
 -- what the planes have of the cells whose words are new, and of the others
 pub has-there : (u : Unrolling) (planes : PlaneSet) (s : Sig) (chunk : ℕ) (w : PinWord) → IsOf u planes → s.0 < signals_in u → chunk < chunks_in u → (l : Lit)
     → s.0 ≡ l.cell.sig.0 → chunk ≡ l.cell.cycle / 64
