@@ -8,14 +8,15 @@ use Rattle.std.proofs.Math.ListN.{get_or-eq_default}
 use Rattle.std.proofs.Math.Nat.{mul-le-mul_right}
 use Rattle.sr_model.specs.declared.cells.Sig.{Sig}
 use Rattle.sr_model.specs.declared.cells.Cell.{Cell}
-use Rattle.sr_model.specs.Closure.{HasBoth, CellLe}
+use Rattle.sr_model.specs.Order.{CellLe}
+use Rattle.sr_model.specs.Closure.{HasBoth, IsLeastClash}
 use Rattle.unroll.specs.declared.words.PinWord.{PinWord}
 use Rattle.unroll.specs.Bits.{is_set, word_for}
 use Rattle.unroll.specs.Problem.{Unrolling, signals_in, chunks_in, block_at, block_of, bit_of}
 use Rattle.unroll.proofs.WordBits.{is_set_or, is_set_and, is_set_zero}
 use Rattle.unroll.proofs.BlockNumbers.{block-chunk, block-within, cycle-chunk}
 use Rattle.known_planes.specs.Planes.{PlaneSet, no_bits, words_at, pair_in, lits, IsOf}
-use Rattle.known_planes.specs.Clash.{IsLeastClash, has_both_at}
+use Rattle.known_planes.specs.Clash.{has_both_at}
 
 -- the bits of a word are those that one of the first signals has in both words of the chunk
 abbrev pub HasEach : PlaneSet → ℕ → ℕ → ℕ → Type 0

@@ -4,13 +4,12 @@ use Rattle.std.specs.List.{Contains}
 use Rattle.std.proofs.lemmas.Bool.{cases_lt}
 use Rattle.sr_model.specs.declared.cells.Cell.{Cell}
 use Rattle.sr_model.specs.declared.cells.Lit.{Lit}
-use Rattle.sr_model.specs.Closure.{Closure, ForcesSomewhere, IsClash, IsWithin, SameLits, IsClosed, HasBoth, level, lit}
+use Rattle.sr_model.specs.Closure.{Closure, ForcesSomewhere, IsClash, IsLeastClash, IsWithin, SameLits, IsClosed, HasBoth, level, lit}
 use Rattle.sr_model.proofs.Members.{not_in_nil}
 use Rattle.sr_model.proofs.ClosureLaws.{ForcesSomewhere-more, least, level-later}
 use Rattle.unroll.specs.declared.problem.Block.{Block}
 use Rattle.unroll.specs.Bits.{is_set, word_for}
 use Rattle.unroll.specs.Problem.{Unrolling, unrolled, block_of, bit_of}
-use Rattle.known_planes.specs.Clash.{IsLeastClash}
 use Rattle.known_planes.specs.Planes.{PlaneSet, IsOf, has, lits, words_at}
 use Rattle.plain_close.specs.declared.task_queues.InChunk.{InChunk}
 use Rattle.plain_close.specs.declared.levels.Level.{Level}
@@ -81,9 +80,11 @@ module _ (u : Unrolling) (base : PlaneSet) (number : ℕ) (at : Level) (is : Lev
 
   pub clash-here : (c : Cell) → IsLeastClash (lits u at.planes) c → IsClash (unrolled u) (lits u base) c number
   clash-here c clash = record {
-    both = (is.literals.0 (lit c false) clash.both.0, is.literals.0 (lit c true) clash.both.1);
     first_level = λ j d both. elim (cases_lt j number) [ inl below ↦ absurd (is.none_before j d below both) | inr above ↦ above ];
-    least_cell = λ d both. clash.least d (both-here d both);
+    least_cell = record {
+      both = (is.literals.0 (lit c false) clash.both.0, is.literals.0 (lit c true) clash.both.1);
+      least = λ d both. clash.least d (both-here d both);
+    };
   }
 
   -- where the level is closed it is the closure

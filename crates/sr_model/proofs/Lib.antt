@@ -3,6 +3,7 @@ pub mod AndKinds
 pub mod AndLike
 pub mod ClosureLaws
 pub mod Families
+pub mod Forcing
 pub mod FromNothing
 pub mod Instances
 pub mod Members

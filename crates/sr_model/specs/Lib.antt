@@ -5,6 +5,7 @@ pub mod Dump
 pub mod Gate
 pub mod Laws
 pub mod Netlist
+pub mod Order
 pub mod Room
 pub mod Worked
 pub mod XorLike
