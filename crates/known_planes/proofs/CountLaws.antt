@@ -1,21 +1,20 @@
 -- How many literals planes have: by blocks, with one more, and never too many.
 use Rattle.std.proofs.Common.{ℕ, ◌≡◌, ◌+◌, ◌*◌, ◌<◌, ◌≤◌, Bool, true, false, cond, length, get_or, arith, refl, sym, ap, subst, ◌∙◌}
-use Rattle.std.specs.List.{All, sum_by, range_with_len}
+use Rattle.std.specs.List.{sum_by, range_with_len}
 use Rattle.std.proofs.lemmas.Bool.{true≢false}
 use Rattle.std.proofs.lemmas.List.Sums.{sum_by-le, count_by-le-length}
 use Rattle.std.proofs.lemmas.List.FromFn.{length-range_with_len}
 use Rattle.netlist.specs.Wiring.{signals_below}
 use Rattle.netlist.proofs.Marks.{signals_member, signals_within}
 use Rattle.sr_model.specs.declared.cells.Sig.{Sig}
-use Rattle.sr_model.specs.declared.cells.Lit.{Lit}
 use Rattle.sr_model.specs.Netlist.{cell_at}
 use Rattle.sr_model.specs.Closure.{lit}
 use Rattle.unroll.specs.declared.words.PinWord.{PinWord}
 use Rattle.unroll.specs.Bits.{is_set}
-use Rattle.unroll.specs.Problem.{Unrolling, signals_in, blocks_in}
+use Rattle.unroll.specs.Problem.{signals_in}
 use Rattle.unroll.proofs.ConstantTasks.{chunk-listed}
-use Rattle.known_planes.specs.Planes.{PlaneSet, IsOf, has, no_bits}
-use Rattle.known_planes.specs.Counts.{bits_in, bits_of_both, literal_bits_at, literals_of, literal_count, cells_where}
+use Rattle.known_planes.specs.Planes.{PlaneSet, has, no_bits}
+use Rattle.known_planes.specs.Counts.{bits_in, bits_of_both, literal_bits_at, literals_of, cells_where}
 use Rattle.known_planes.specs.Laws.{LiteralsByBlock, MoreLiteralsCountMore, LiteralsAreBits}
 use Rattle.known_planes.proofs.Sums.{sum-agree, sum-agree_on, sum-mapped, sum-places, sum-le, sum-lt}
 use Rattle.known_planes.proofs.RowCounts.{literal-row, rows-sum}

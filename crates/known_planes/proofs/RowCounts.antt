@@ -83,7 +83,7 @@ module _ (u : Unrolling) (planes : PlaneSet) (of : IsOf u planes) (s : Sig) (h :
         | inr late ↦
             elim (cases_Bool (is_set (word_for bit (words_at planes (block_at u s c))) i)) [
               | inl set ↦
-                  let cycle : nat_lt (64 * c + i) u.cycles ≡ true = subst (λ n. nat_lt (64 * n + i) u.cycles ≡ true) (block-chunk u s c k) (of.no_further (block_at u s c) (block-within u s c k h) bit i few set) in
+                  let cycle : nat_lt (64 * c + i) u.cycles ≡ true = subst (λ n. nat_lt (64 * n + i) u.cycles ≡ true) (block-chunk u s c k) (of.no_later (block_at u s c) (block-within u s c k h) bit i few set) in
                   absurd (true≢false (sym cycle ∙ le-ltb (64 * c + i) u.cycles late))
               | inr unset ↦
                   same ∙ unset ∙ sym (ap (λ t. t && is_set (word_for bit (words_at planes (block_at u s ((64 * c + i) / 64)))) ((64 * c + i) % 64)) (le-ltb (64 * c + i) u.cycles late))

@@ -8,14 +8,14 @@ use Rattle.sr_model.proofs.ClosureLaws.{monotone, has_base, forced_between, clos
 use Rattle.unroll.specs.declared.problem.Block.{Block}
 use Rattle.unroll.specs.declared.words.PinWord.{PinWord}
 use Rattle.unroll.specs.Bits.{is_set, is_cycle, word_for}
-use Rattle.unroll.specs.Problem.{Unrolling, unrolled, IsProblem, signals_in, chunks_in, block_at, block_of, bit_of}
+use Rattle.unroll.specs.Problem.{Unrolling, unrolled, IsProblem, signals_in, chunks_in, block_at, block_of, bit_of, HasNoLaterBit}
 use Rattle.unroll.specs.Tasks.{constant_tasks}
 use Rattle.unroll.specs.Laws.{ForcesFromNothing}
 use Rattle.unroll.proofs.BlockNumbers.{cycle-chunk, block-chunk, block-within}
 use Rattle.unroll.proofs.WordBits.{is_set_and}
 use Rattle.unroll.proofs.ConstantTasks.{force_from_nothing}
 use Rattle.gate_rules.specs.Forced.{ForcedIn}
-use Rattle.known_planes.specs.Planes.{PlaneSet, has, lits, words_at, IsOf, HasNoFurtherBit}
+use Rattle.known_planes.specs.Planes.{PlaneSet, has, lits, words_at, IsOf}
 use Rattle.known_planes.proofs.PlanesLaws.{literals_are_of_cells}
 use Rattle.plain_close.specs.Queues.{Waiting, Waits}
 use Rattle.plain_close.specs.Turns.{AreTasksOf, IsSettled, Pushed, Wakes, Joins, Adds, AddsRow, has_bit}
@@ -114,11 +114,11 @@ settled-closed u planes q closed t task = inr (λ l f. closed.1 l (forced_betwee
 pub no-tasks : (u : Unrolling) (q : Waiting) → q.signals ≡ signals_in u → length q.rows ≡ chunks_in u → ((s : Sig) (c : ℕ) → Waits q s c → ⊥) → AreTasksOf u q
 no-tasks u q signals chunks none = record { signals = signals; chunks = chunks; tasks = λ s c h. absurd (none s c h) }
 
--- the words of planes have no further bit
-pub no_further-in : (u : Unrolling) (other : PlaneSet) (s : Sig) (chunk : ℕ) (w : PinWord) → IsOf u other → s.0 < signals_in u → chunk < chunks_in u → w ≡ words_at other (block_at u s chunk) → HasNoFurtherBit u chunk w
-no_further-in u other s chunk w of signal early is =
-    subst (HasNoFurtherBit u chunk) (sym is)
-    (subst (λ c. HasNoFurtherBit u c (words_at other (block_at u s chunk))) (block-chunk u s chunk early) (of.no_further (block_at u s chunk) (block-within u s chunk early signal)))
+-- the words of planes have no bit of a later cycle
+pub no_later-in : (u : Unrolling) (other : PlaneSet) (s : Sig) (chunk : ℕ) (w : PinWord) → IsOf u other → s.0 < signals_in u → chunk < chunks_in u → w ≡ words_at other (block_at u s chunk) → HasNoLaterBit u.cycles chunk w
+no_later-in u other s chunk w of signal early is =
+    subst (HasNoLaterBit u.cycles chunk) (sym is)
+    (subst (λ c. HasNoLaterBit u.cycles c (words_at other (block_at u s chunk))) (block-chunk u s chunk early) (of.no_later (block_at u s chunk) (block-within u s chunk early signal)))
 
 -- the literals of planes that had none
 pub added-to_none : (u : Unrolling) (x other z : PlaneSet) (before after : Waiting) → ((l : Lit) → has u x l ≡ false) → IsOf u other → Wakes u x z before after → Adds u other (chunks_in u) x z
@@ -140,9 +140,9 @@ closed_again u planes base closed = (
 )
 
 -- words without the bits of cycles that are not there
-pub masked : (u : Unrolling) (chunk zero one valid : ℕ) → ((i : ℕ) → i < 64 → is_set valid i ≡ is_cycle u.cycles chunk i)
-    → HasNoFurtherBit u chunk (record { zero = bit_and zero valid; one = bit_and one valid })
-masked u chunk zero one valid valid_is true i few h =
-    sym (valid_is i few) ∙ (and_parts (is_set one i) (is_set valid i) (sym (is_set_and one valid i) ∙ h)).1
-masked u chunk zero one valid valid_is false i few h =
-    sym (valid_is i few) ∙ (and_parts (is_set zero i) (is_set valid i) (sym (is_set_and zero valid i) ∙ h)).1
+pub masked : (u : Unrolling) (chunk z o valid : ℕ) → ((i : ℕ) → i < 64 → is_set valid i ≡ is_cycle u.cycles chunk i)
+    → HasNoLaterBit u.cycles chunk (record { zero = bit_and z valid; one = bit_and o valid })
+masked u chunk z o valid valid_is true i few h =
+    sym (valid_is i few) ∙ (and_parts (is_set o i) (is_set valid i) (sym (is_set_and o valid i) ∙ h)).1
+masked u chunk z o valid valid_is false i few h =
+    sym (valid_is i few) ∙ (and_parts (is_set z i) (is_set valid i) (sym (is_set_and z valid i) ∙ h)).1
