@@ -7,11 +7,11 @@ use Rattle.unroll.specs.declared.problem.Block.{Block}
 use Rattle.unroll.specs.declared.problem.Task.{Task}
 use Rattle.unroll.specs.declared.words.PinWord.{PinWord}
 use Rattle.unroll.specs.Bits.{is_set, word_for}
-use Rattle.unroll.specs.Problem.{Unrolling, chunk_at, sig_at, block_at, block_of, cell_of}
+use Rattle.unroll.specs.Problem.{Unrolling, chunk_at, sig_at, block_at, block_of, cell_of, HaveNoLaterBit}
 use Rattle.unroll.proofs.BlockNumbers.{block-itself}
 use Rattle.unroll.proofs.TaskCells.{role, cell-in_time}
 use Rattle.gate_rules.specs.Lanes.{words_at}
-use Rattle.gate_rules.specs.Forced.{ForcedIn, IsForcedExactly, IsNewExactly, HasNoLaterBit, bit_at_place, lit_at_place, view_has, words_of}
+use Rattle.gate_rules.specs.Forced.{ForcedIn, IsForcedExactly, IsNewExactly, bit_at_place, lit_at_place, view_has, words_of}
 use Rattle.gate_rules.proofs.AndLikeSet.{set_next}
 use Rattle.gate_rules.proofs.BlockPlaces.{words_of-place}
 
@@ -20,15 +20,10 @@ pub forced-in_time : (u : Unrolling) (t : Task) (known : Lit → Bool) (l : Lit)
 forced-in_time u t known l f = cell-in_time u f.place l.cell (role u f.place f.forces.instance l.cell f.forces.stands f.forces.forces.on_cells)
 
 module _ (u : Unrolling) (t : Task) (blocks : List Block) (view words : List PinWord) where
-  pub no_later : IsForcedExactly u t blocks view words → HasNoLaterBit u blocks words
-  no_later exact j i bit within lane late =
-      elim (cases_Bool (bit_at_place words j bit i)) [
-        | inr unset ↦ unset
-        | inl set ↦
-            let l : Lit = lit_at_place u blocks j bit i in
-            let early : l.cell.cycle < u.cycles = forced-in_time u t (view_has u blocks view) l ((exact j i bit within lane).0 set) in
-            absurd (true≢false (sym (lt-ltb l.cell.cycle u.cycles early) ∙ late))
-      ]
+  pub no_later : IsForcedExactly u t blocks view words → HaveNoLaterBit u blocks words
+  no_later exact j within bit i lane set =
+      let l : Lit = lit_at_place u blocks j bit i in
+      lt-ltb l.cell.cycle u.cycles (forced-in_time u t (view_has u blocks view) l ((exact j i bit within lane).0 set))
 
   -- in a cycle that is there, the view has the literal of a bit that is set
   pub view-at : AllPairs (λ a b. a.0 < b.0) blocks → length view ≡ length blocks → (j i : ℕ) (bit : Bool) → j < length blocks → i < 64

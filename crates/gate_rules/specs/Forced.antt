@@ -1,13 +1,13 @@
 -- What a task forces, as the literals of the words of its blocks.
-use Rattle.std.specs.Prelude.{ℕ, ◌≡◌, ◌<◌, ◌==◌, ◌&&◌, ◌↔◌, Bool, false, IsTrue, IsFalse, List, [], ◌∷◌, length, nat_lt, slice_index_or, if◌then◌else◌}
+use Rattle.std.specs.Prelude.{ℕ, ◌≡◌, ◌<◌, ◌==◌, ◌&&◌, ◌↔◌, Bool, IsTrue, IsFalse, List, [], ◌∷◌, length, nat_lt, slice_index_or, if◌then◌else◌}
 use Rattle.sr_model.specs.declared.cells.Lit.{Lit}
 use Rattle.sr_model.specs.declared.cells.Place.{Place}
 use Rattle.sr_model.specs.Closure.{ForcesAt, passing, lit}
 use Rattle.unroll.specs.declared.problem.Block.{Block}
 use Rattle.unroll.specs.declared.problem.Task.{Task}
 use Rattle.unroll.specs.declared.words.PinWord.{PinWord}
-use Rattle.unroll.specs.Bits.{is_set, is_cycle, word_for}
-use Rattle.unroll.specs.Problem.{Unrolling, unrolled, chunk_at, block_of, bit_of, cell_of}
+use Rattle.unroll.specs.Bits.{is_set, word_for}
+use Rattle.unroll.specs.Problem.{Unrolling, unrolled, block_of, bit_of, cell_of}
 use Rattle.unroll.specs.Tasks.{IsPlaceOf}
 use Rattle.gate_rules.specs.Lanes.{words_at}
 
@@ -34,12 +34,6 @@ bit_at_place words j bit i = is_set (word_for bit (words_at words j)) i
 -- the literal that it stands for
 abbrev pub lit_at_place : Unrolling → List Block → ℕ → Bool → ℕ → Lit
 lit_at_place u blocks j bit i = lit (cell_of u (slice_index_or blocks j (record { 0 = 0 })) i) bit
-
--- no bit of a cycle that is not there
-abbrev pub HasNoLaterBit : Unrolling → List Block → List PinWord → Type 0
-HasNoLaterBit u blocks words =
-    (j i : ℕ) (bit : Bool) → j < length blocks → i < 64 → is_cycle u.cycles (chunk_at u (slice_index_or blocks j (record { 0 = 0 }))) i ≡ false
-    → bit_at_place words j bit i ≡ false
 
 -- the words hold exactly what the task forces from those of the view
 abbrev pub IsForcedExactly : Unrolling → Task → List Block → List PinWord → List PinWord → Type 0

@@ -1,10 +1,10 @@
 //! What a task forces, and what of it is new.
 ghost use Rattle.std.specs.Prelude.{ℕ, ◌≡◌, ◌<◌, ◌≤◌, ◌&&◌, Bool, true, not, length};
-ghost use Rattle.unroll.specs.Problem.{chunks_in};
+ghost use Rattle.unroll.specs.Problem.{chunks_in, HaveNoLaterBit};
 ghost use Rattle.unroll.specs.Tasks.{IsTask, task_at, blocks_of, blocks_from};
 ghost use Rattle.netlist.specs.Wiring.{driver_at, is_driven};
 ghost use Rattle.unroll.specs.Bits.{is_set, word_for};
-ghost use Rattle.gate_rules.specs.Forced.{IsForcedExactly, IsNewExactly, HasNoLaterBit, bit_at_place};
+ghost use Rattle.gate_rules.specs.Forced.{IsForcedExactly, IsNewExactly, bit_at_place};
 ghost use Rattle.gate_rules.specs.Ticks.{ticked};
 
 use crate::flip_flops::force_flip_flop;
@@ -26,7 +26,7 @@ pub fn forced(p: &Problem, t: Task, blocks: &Blocks, view: &PinWords, out: &mut 
     ensures size { length out.new.items ≡ length blocks.now.items }
     ensures room { out.old.room ≤ out.new.room }
     ensures forced { IsForcedExactly p.now t blocks.now.items view.now.items out.new.items }
-    ensures later { HasNoLaterBit p.now blocks.now.items out.new.items }
+    ensures later { HaveNoLaterBit p.now blocks.now.items out.new.items }
 {
     let target = Block(t.0);
     forced_in_chunk(p, p.sig_of(target), p.chunk_of(target), blocks, view, out)
@@ -50,7 +50,7 @@ pub fn forced_in_chunk(
     ensures size { length out.new.items ≡ length blocks.now.items }
     ensures room { out.old.room ≤ out.new.room }
     ensures forced { IsForcedExactly p.now (task_at p.now target chunk) blocks.now.items view.now.items out.new.items }
-    ensures later { HasNoLaterBit p.now blocks.now.items out.new.items }
+    ensures later { HaveNoLaterBit p.now blocks.now.items out.new.items }
 {
     match p.net().kind_of(target) {
         Some(Kind::Dff) => force_flip_flop(p, target, chunk, blocks, view, out),
@@ -75,7 +75,7 @@ pub fn apply<T: Tally>(
     ensures size { length out.new.items ≡ length blocks.now.items }
     ensures room { out.old.room ≤ out.new.room }
     ensures new { IsNewExactly p.now t blocks.now.items view.now.items out.new.items }
-    ensures later { HasNoLaterBit p.now blocks.now.items out.new.items }
+    ensures later { HaveNoLaterBit p.now blocks.now.items out.new.items }
     ensures tally { T.number tally.new ≡ ticked (T.number tally.old) }
 {
     let target = Block(t.0);
@@ -109,7 +109,7 @@ pub fn apply_in_chunk<T: Tally>(
     ensures size { length out.new.items ≡ length blocks.now.items }
     ensures room { out.old.room ≤ out.new.room }
     ensures new { IsNewExactly p.now (task_at p.now target chunk) blocks.now.items view.now.items out.new.items }
-    ensures later { HasNoLaterBit p.now blocks.now.items out.new.items }
+    ensures later { HaveNoLaterBit p.now blocks.now.items out.new.items }
     ensures tally { T.number tally.new ≡ ticked (T.number tally.old) }
 {
     tally.tick();
