@@ -2,6 +2,7 @@ pub mod AndLikeForced
 pub mod AndLikeSet
 pub mod AndLikeWords
 pub mod BlockPlaces
+pub mod CycleMasks
 pub mod Counting
 pub mod FlipFlopBlocks
 pub mod FlipFlopForced

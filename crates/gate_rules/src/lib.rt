@@ -10,5 +10,7 @@ mod tally;
 #[cfg(test)]
 mod tests;
 
-pub use rules::{apply, apply_in_chunk, forced, forced_in_chunk};
+pub use rules::{
+    apply, apply_in_chunk, forced, forced_in_chunk, forced_in_cycles, forced_in_cycles_in_chunk,
+};
 pub use tally::{Count, Tally};
