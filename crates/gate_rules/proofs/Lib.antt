@@ -14,3 +14,5 @@ pub mod LaneWords
 pub mod NewLiterals
 pub mod OddWords
 pub mod ParityExact
+pub mod SettledOnce
+pub mod TaskForcing
