@@ -9,6 +9,7 @@ pub mod FewWords
 pub mod Gifts
 pub mod GivenKeys
 pub mod GivenValues
+pub mod Inputless
 pub mod LoadCounts
 pub mod Loads
 pub mod OneAnswer

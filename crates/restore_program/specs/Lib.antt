@@ -1,10 +1,13 @@
 pub mod Answer
 pub mod AnswerLaws
+pub mod Faults
 pub mod Loading
 pub mod Outcome
 pub mod Printing
+pub mod ReplyAnswers
 pub mod Reply
 pub mod Requests
+pub mod Says
 pub mod Sound
 pub mod Status
 pub mod TraceRefusals

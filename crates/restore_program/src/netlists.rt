@@ -3,7 +3,9 @@ ghost use Rattle.std.specs.Prelude.{◌≡◌, ◌≢◌, ◌<◌, ◌≤◌, �
 ghost use Rattle.sr_outside.specs.Counts.{IsCounted};
 ghost use Rattle.sr_outside.specs.Told.{IsSteady};
 ghost use Rattle.restore_program.specs.Reply.{IsReady};
-ghost use Rattle.restore_program.specs.Answer.{IsOfWords, most_bytes, IsFault, IsNetlistFault, IsNetlistOf, IsNetlistText, OnFault, OnRefused, RefusedNetlist, Replies, unread_refusal};
+ghost use Rattle.restore_program.specs.Answer.{most_bytes, IsNetlistOf, IsNetlistText, OnRefused, RefusedNetlist};
+ghost use Rattle.restore_program.specs.Faults.{IsNetlistFault};
+ghost use Rattle.restore_program.specs.ReplyAnswers.{IsOfWords, IsFault, OnFault, Replies, unread_refusal};
 
 use crate::reply::Reply;
 use bench_reader::read_bench;

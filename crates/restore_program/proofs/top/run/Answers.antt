@@ -2,7 +2,8 @@ use Rattle.std.proofs.Common.{◌≡◌, List, ℕ, Option, map, sym, subst, ◌
 use Rattle.std.specs.Prelude.{IfSome}
 use Rattle.std.specs.String.{string_bytes}
 use Rattle.sr_outside.specs.Told.{Held}
-use Rattle.restore_program.specs.Answer.{IsPlain, Says}
+use Rattle.restore_program.specs.Says.{Says}
+use Rattle.restore_program.specs.Status.{IsPlain}
 use Rattle.restore_program.specs.Reply.{status_of, text_of}
 use Rattle.restore_program.specs.Sound.{IsAccepted, IsPrintable, IsTableOrClash, IsTraceable}
 use Rattle.restore_program.specs.declared.status.Status.TheVariants as statuses
