@@ -22,7 +22,8 @@ pub returns-in_err-write_row : goal.returns-in_err-write_row
 returns-in_err-write_row g c =
     let p = err_from_is_err_and c.from_residual.result c.from_residual.ensures.1 in
     writes_fault g.K.Sink.written g.K.Sink.room g.K.Sink.faults c.args.out.now c.loop-number.out c.write_row.new.out c.write_row.result c.from_residual.result _ p.0
-    (row_lines c.args.p.now.circuit c.args.p.now.cycles (has c.args.p.now c.args.planes.now) (signals_below c.loop-number.number)) _ _ _
+    (row_lines c.args.p.now.circuit c.args.p.now.cycles (has c.args.p.now c.args.planes.now) (signals_below c.loop-number.number))
+    (row_line c.args.p.now.circuit c.args.p.now.cycles (has c.args.p.now c.args.planes.now) (record { 0 = c.loop-number.number })) _ _
     c.in_err-write_row.was p.1
     (signals_at (row_line c.args.p.now.circuit c.args.p.now.cycles (has c.args.p.now c.args.planes.now)) c.loop-number.number (signals_in c.args.p.now)
     (subst (λ n. c.loop-number.number < n) (c.signals-number-end.ensures.count ∙ ap (λ k. length k.drivers) c.net.ensures.net) c.loop-number-test.true))

@@ -27,7 +27,8 @@ loop-sig-preserved g c =
     (subst (λ (sigs : List Sig). c.loop-sig.sig-index < length sigs) same c.loop-sig-test.true)) c.loop-sig.invariant
     (subst (λ (sigs : List Sig). Wrote g.K.Sink.written g.K.Sink.room g.K.Sink.faults c.loop-sig.out c.write_row.new.out
     (row_line c.args.p.now.circuit c.args.p.now.cycles (has c.args.p.now c.args.planes.now) (get_or sigs c.loop-sig.sig-index no_sig))) same
-    (wrote_whole g.K.Sink.written g.K.Sink.room g.K.Sink.faults c.loop-sig.out c.write_row.new.out _ _ c.in_ok-write_row.ensures))
+    (wrote_whole g.K.Sink.written g.K.Sink.room g.K.Sink.faults c.loop-sig.out c.write_row.new.out _
+    (row_line c.args.p.now.circuit c.args.p.now.cycles (has c.args.p.now c.args.planes.now) (get_or c.flip_flops-sig-items.result.now c.loop-sig.sig-index no_sig)) c.in_ok-write_row.ensures))
 
 pub returns-in_err-write_row : goal.returns-in_err-write_row
 returns-in_err-write_row g c =
