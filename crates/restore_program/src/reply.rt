@@ -126,7 +126,7 @@ pub(crate) fn write_reply<K: Sink>(
     out: &mut K,
 ) -> Result<(), WriteFault>
     requires { IsReady (map string_bytes words.now) reply.old }
-    ensures { Writes (K.written out.old) (K.written out.new) (K.room out.new) (K.faults out.old) (K.faults out.new) result (text_of (map string_bytes words.now) reply.old) }
+    ensures { Writes K.written K.room K.faults out.old out.new result (text_of (map string_bytes words.now) reply.old) }
 {
     match reply {
         Reply::Refused { refusal } => write_refusal(refusal, words, out),
@@ -140,7 +140,7 @@ pub(crate) fn write_reply<K: Sink>(
 /// Writes a table.
 fn write_known<K: Sink>(table: &mut Table, out: &mut K) -> Result<(), WriteFault>
     requires { IsTable table.old }
-    ensures { Writes (K.written out.old) (K.written out.new) (K.room out.new) (K.faults out.old) (K.faults out.new) result (table_text table.old.netlist table.old.cycles (has (unrolling_of table.old) table.old.planes) table.old.traced table.old.all) }
+    ensures { Writes K.written K.room K.faults out.old out.new result (table_text table.old.netlist table.old.cycles (has (unrolling_of table.old) table.old.planes) table.old.traced table.old.all) }
 {
     let problem = Problem::new(&table.netlist, table.cycles);
     write_table(
@@ -155,7 +155,7 @@ fn write_known<K: Sink>(table: &mut Table, out: &mut K) -> Result<(), WriteFault
 
 /// Writes the line of a load netlist.
 fn write_loaded<K: Sink>(loaded: Loaded, out: &mut K) -> Result<(), WriteFault>
-    ensures { Writes (K.written out.old) (K.written out.new) (K.room out.new) (K.faults out.old) (K.faults out.new) result (loaded_line loaded) }
+    ensures { Writes K.written K.room K.faults out.old out.new result (loaded_line loaded) }
 {
     write_load(
         loaded.number,
@@ -167,7 +167,7 @@ fn write_loaded<K: Sink>(loaded: Loaded, out: &mut K) -> Result<(), WriteFault>
 }
 
 fn write_text<K: Sink>(text: &[u8], out: &mut K) -> Result<(), WriteFault>
-    ensures { Writes (K.written out.old) (K.written out.new) (K.room out.new) (K.faults out.old) (K.faults out.new) result text.now }
+    ensures { Writes K.written K.room K.faults out.old out.new result text.now }
 {
     write_all(out, text)
 }

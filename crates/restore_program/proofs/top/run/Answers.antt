@@ -15,7 +15,7 @@ returns-in-Ok-clause-answer g c _ =
     let words : List (List ℕ) = map string_bytes c.args.words.now in
     let told : Option Held = g.I.Inputs.held c.args.inputs.now in (
       text_of words c.reply_to-reply.result,
-      c.in-Ok.ensures.written,
+      c.in-Ok.ensures.appended,
       subst (Says words told (g.I.Inputs.shaky c.args.inputs.now) (text_of words c.reply_to-reply.result)) (sym c.reply_status-status.ensures)
           (says words told (g.I.Inputs.shaky c.args.inputs.now) c.reply_to-reply.result c.reply_to-reply.ensures.answer c.reply_to-reply.ensures.fault_of),
     )
@@ -23,14 +23,14 @@ returns-in-Ok-clause-answer g c _ =
 pub returns-in-Ok-clause-sound : goal.returns-in-Ok-clause-sound
 returns-in-Ok-clause-sound g c e asks = (
   text_of (map string_bytes c.args.words.now) c.reply_to-reply.result,
-  c.in-Ok.ensures.written,
+  c.in-Ok.ensures.appended,
   sound_reply (map string_bytes c.args.words.now) c.reply_to-reply.result (g.I.Inputs.held c.args.inputs.now) asks c.reply_to-reply.ensures.answer (sym c.reply_status-status.ensures ∙ e),
 )
 
 pub returns-in-Ok-clause-again : goal.returns-in-Ok-clause-again
 returns-in-Ok-clause-again g c e asks = (
   text_of (map string_bytes c.args.words.now) c.reply_to-reply.result,
-  c.in-Ok.ensures.written,
+  c.in-Ok.ensures.appended,
   again_reply (map string_bytes c.args.words.now) c.reply_to-reply.result (g.I.Inputs.held c.args.inputs.now) asks c.reply_to-reply.ensures.answer (sym c.reply_status-status.ensures ∙ e),
 )
 
