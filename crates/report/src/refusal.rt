@@ -4,9 +4,9 @@ ghost use Rattle.std.specs.String.{string_bytes};
 ghost use Rattle.report.specs.Refusals.{AreThere, refusal_line};
 ghost use Rattle.report.specs.Writes.{Writes};
 
+use crate::pieces::write_text;
 use crate::refusal_lines::{
-    write_bench_refusal, write_dump_refusal, write_fault, write_net_refusal, write_text,
-    write_too_long,
+    write_bench_refusal, write_dump_refusal, write_fault, write_net_refusal, write_too_long,
 };
 use crate::word_lines::{write_many_cells, write_name, write_word_refusal};
 use bench_reader::BenchRefusal;
@@ -62,7 +62,7 @@ pub enum Refusal {
 /// Writes the line of the refusal. It takes no memory.
 pub fn write_refusal<K: Sink>(r: &Refusal, words: &[String], out: &mut K) -> Result<(), WriteFault>
     requires { AreThere (map string_bytes words.now) r.now }
-    ensures { Writes (K.written out.old) (K.written out.new) (K.room out.new) (K.faults out.old) (K.faults out.new) result (refusal_line (map string_bytes words.now) r.now) }
+    ensures { Writes K.written K.room K.faults out.old out.new result (refusal_line (map string_bytes words.now) r.now) }
 {
     let unknown: &'static [u8] = b"srestore: words: 26 unknown trace ";
     let twice: &'static [u8] = b"srestore: words: 27 trace twice ";

@@ -19,6 +19,7 @@ pub mod OneRequest
 pub mod OneRun
 pub mod OneTrace
 pub mod Outcomes
+pub mod Prepared
 pub mod SameTests
 pub mod SimulatedTraces
 pub mod Simulations
@@ -26,3 +27,4 @@ pub mod Sounding
 pub mod TraceNames
 pub mod TraceSignals
 pub mod WordPlaces
+pub mod WordStatuses

@@ -156,7 +156,7 @@ pub(crate) fn write_reply<K: Sink>(
 ) -> Result<(), WriteFault>
     requires ready { IsReady (map string_bytes words.now) reply.now }
     requires buffer { HasBuffer reply.now buf.old }
-    ensures { Writes (K.written out.old) (K.written out.new) (K.room out.new) (K.faults out.old) (K.faults out.new) result (text_of (map string_bytes words.now) reply.now) }
+    ensures { Writes K.written K.room K.faults out.old out.new result (text_of (map string_bytes words.now) reply.now) }
 {
     match reply {
         Reply::Refused { refusal } => write_refusal(refusal, words, out),
@@ -170,7 +170,7 @@ pub(crate) fn write_reply<K: Sink>(
 /// Writes a table.
 fn write_known<K: Sink>(table: &Table, buf: &mut RowBuf, out: &mut K) -> Result<(), WriteFault>
     requires { IsTable table.now }
-    ensures { Writes (K.written out.old) (K.written out.new) (K.room out.new) (K.faults out.old) (K.faults out.new) result (table_text table.now.netlist table.now.cycles (has (unrolling_of table.now) table.now.planes) table.now.traced table.now.all) }
+    ensures { Writes K.written K.room K.faults out.old out.new result (table_text table.now.netlist table.now.cycles (has (unrolling_of table.now) table.now.planes) table.now.traced table.now.all) }
 {
     let problem = Problem::new(&table.netlist, table.cycles);
     write_table(
@@ -185,7 +185,7 @@ fn write_known<K: Sink>(table: &Table, buf: &mut RowBuf, out: &mut K) -> Result<
 
 /// Writes the line of a load netlist.
 fn write_loaded<K: Sink>(loaded: Loaded, out: &mut K) -> Result<(), WriteFault>
-    ensures { Writes (K.written out.old) (K.written out.new) (K.room out.new) (K.faults out.old) (K.faults out.new) result (loaded_line loaded) }
+    ensures { Writes K.written K.room K.faults out.old out.new result (loaded_line loaded) }
 {
     write_load(
         loaded.number,
@@ -197,7 +197,7 @@ fn write_loaded<K: Sink>(loaded: Loaded, out: &mut K) -> Result<(), WriteFault>
 }
 
 fn write_text<K: Sink>(text: &[u8], out: &mut K) -> Result<(), WriteFault>
-    ensures { Writes (K.written out.old) (K.written out.new) (K.room out.new) (K.faults out.old) (K.faults out.new) result text.now }
+    ensures { Writes K.written K.room K.faults out.old out.new result text.now }
 {
     write_all(out, text)
 }

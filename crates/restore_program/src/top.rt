@@ -3,7 +3,7 @@ ghost use Rattle.std.specs.Prelude.{◌≡◌, ◌≢◌, ◌<◌, ◌⊎◌, Li
 ghost use Rattle.std.specs.String.{string_bytes};
 ghost use Rattle.std.specs.Io.KnownBytes.{append_known};
 ghost use Rattle.sr_outside.specs.Counts.{IsCounted};
-ghost use Rattle.sr_outside.specs.Told.{AppendsPart, IsFull};
+ghost use Rattle.sr_outside.specs.Told.{AppendsPart, IsFull, LacksPlace};
 ghost use Rattle.restore_program.specs.declared.status.Status.{Status as AnyStatus};
 ghost use Rattle.restore_program.specs.Words.{Gives, IsRestore, IsSimulate, trace_rule};
 ghost use Rattle.restore_program.specs.Faults.{AreRefused, AreSteady, IsWordsFault, NeedsNoInput};
@@ -74,12 +74,13 @@ pub fn run<R: Threads + Sync, I: Inputs, K: Sink>(
     ensures read_rose { I.faults inputs.old < I.faults inputs.new → (result ≡ Status.ReadFault) ⊎ (result ≡ Status.WriteFault) }
     ensures steady { AreSteady (I.held inputs.old) (I.shaky inputs.old) (map string_bytes words.now) → I.faults inputs.new ≡ I.faults inputs.old }
 
-    // A write fault is answered only where one was counted. Then a proper front of the text was appended.
+    // A write fault is answered only where one was counted. Then a proper front of the text was appended, and where it is told there was no room for all.
     ensures write_fault { result ≡ Status.WriteFault → IsCounted (K.faults out.old) (K.faults out.new) }
     ensures write_rose { K.faults out.old < K.faults out.new → result ≡ Status.WriteFault }
     ensures part { result ≡ Status.WriteFault → (text : List ℕ) × (status : AnyStatus) × AppendsPart (K.written out.old) (K.written out.new) text
-        × Says (map string_bytes words.now) (I.held inputs.old) (I.shaky inputs.old) text status }
+        × LacksPlace (K.written out.old) (K.room out.old) text × Says (map string_bytes words.now) (I.held inputs.old) (I.shaky inputs.old) text status }
     ensures full { result ≡ Status.WriteFault → IsFull (K.written out.new) (K.room out.new) }
+    ensures room { K.room out.new ≡ K.room out.old }
 {
     let Prepared { reply, mut buf } = prepared_reply(rt, alloc, words, inputs);
     let status = reply_status(&reply);
