@@ -19,7 +19,7 @@ BlocksBySignal =
     (u : Unrolling) (s : Sig) (chunk : ℕ) → chunk < chunks_in u
     → (sig_at u (block_at u s chunk) ≡ s) × (chunk_at u (block_at u s chunk) ≡ chunk) × (s.0 < signals_in u → (block_at u s chunk).0 < blocks_in u)
 
--- a block is that of its signal and chunk, and those of one of the blocks are there
+-- a block is that of its signal and chunk; where it is one of the blocks, both are there
 abbrev pub SignalsByBlock : Type 0
 SignalsByBlock =
     (u : Unrolling) (b : Block)
@@ -89,7 +89,7 @@ HaveItsCells = (u : Unrolling) (t : Task) (c : Cell) → IsProblem u → IsTask 
 abbrev pub AdjoinTheirTasks : Type 0
 AdjoinTheirTasks = (u : Unrolling) (t : Task) (c : Cell) → IsProblem u → IsTask u t → IsCellOf u t c → Contains (adjacent_tasks u (block_of u c)) t
 
--- a block is in tasks alone
+-- what a block is in are tasks
 abbrev pub AdjacentAreTasks : Type 0
 AdjacentAreTasks = (u : Unrolling) (b : Block) (t : Task) → IsProblem u → b.0 < blocks_in u → Contains (adjacent_tasks u b) t → IsTask u t
 
