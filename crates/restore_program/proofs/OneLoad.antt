@@ -1,7 +1,7 @@
 -- There is one line of a load netlist.
 use Rattle.std.proofs.Common.{◌≡◌, ◌/◌, ◌<◌, ℕ, false, List, length, max, sym, ap, subst, ◌∙◌}
 use Rattle.std.specs.List.{All}
-use Rattle.std.proofs.lemmas.List.Elements.{All-contains, All-take}
+use Rattle.std.proofs.lemmas.List.Elements.{All-take}
 use Rattle.sr_model.specs.declared.cells.Sig.{Sig}
 use Rattle.sr_model.specs.Dump.{Known, Row}
 use Rattle.netlist.specs.Circuit.{Circuit, IsCircuit, unrolled_over}
@@ -24,8 +24,7 @@ pub traced_within : (c : Circuit) → All (λ (s : Sig). s.0 < length c.drivers)
 traced_within c = All-take (λ (s : Sig). s.0 < length c.drivers) (max 1 (length (flip_flops c.drivers) / 4)) (flip_flops c.drivers) (shown_within c false)
 
 one_load_trace : (c : Circuit) (number : ℕ) (rows others : List Row) → IsCircuit c → IsLoadTrace c number rows → IsLoadTrace c number others → rows ≡ others
-one_load_trace c number rows others is (a, v, first, sim, e) (b, w, second, sim_too, e_too) =
-    e ∙ one_trace c number load_cycles a b v w (load_traced c) is first second sim sim_too (λ s h. All-contains (λ (s : Sig). s.0 < length c.drivers) (load_traced c) s (traced_within c) h) ∙ sym e_too
+one_load_trace c number rows others is (v, first, e) (w, second, e_too) = e ∙ one_trace c number load_cycles v w (load_traced c) is first second (traced_within c) ∙ sym e_too
 
 one_count : (c : Circuit) (rows : List Row) (a b : Counts) → AreCountsOf c rows a → AreCountsOf c rows b → a ≡ b
 one_count c rows a b first second =

@@ -7,7 +7,6 @@ use Rattle.sr_model.specs.Netlist.{Valuation, Has}
 use Rattle.sr_outside.specs.Told.{Held}
 use Rattle.netlist.specs.Circuit.{Circuit}
 use Rattle.dump_reader.specs.Recording.{Recording}
-use Rattle.cycle_sim.specs.BitTable.{BitTable}
 use Rattle.cycle_sim.specs.Simulation.{IsSimulated, traced_rows}
 use Rattle.restore_program.specs.declared.status.Status.{Status}
 use Rattle.restore_program.specs.declared.status.Status.TheVariants as statuses
@@ -35,6 +34,6 @@ TraceableIsTraced = (words : List (List ℕ)) (held : Held) → IsTraceable word
 -- what is known from the trace of a simulated execution are bits of the execution, and so is no contradiction
 abbrev pub TraceIsSimulated : Type 0
 TraceIsSimulated =
-    (c : Circuit) (stimulus : BitTable) (v : Valuation) (sigs : List Sig) → IsSimulated c stimulus v
-    → let trace : Recording = record { cycles = stimulus.count; rows = traced_rows v stimulus.count sigs } in
+    (c : Circuit) (cycles : ℕ) (given : ℕ → ℕ → Bool) (v : Valuation) (sigs : List Sig) → IsSimulated c cycles given v
+    → let trace : Recording = record { cycles = cycles; rows = traced_rows v cycles sigs } in
     IsWithin (KnownFrom c trace) (Has v) × ((cell : Cell) → HasBoth (KnownFrom c trace) cell → ⊥)

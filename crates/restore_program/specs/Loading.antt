@@ -8,12 +8,11 @@ use Rattle.sr_model.specs.Netlist.{Valuation}
 use Rattle.netlist.specs.Circuit.{Circuit, circuit_of, unrolled_over}
 use Rattle.netlist.specs.Wiring.{flip_flops}
 use Rattle.ratio.specs.Ratio.{Counts}
-use Rattle.cycle_sim.specs.BitTable.{BitTable}
 use Rattle.cycle_sim.specs.Load.{IsLoadSize, load_statements}
-use Rattle.cycle_sim.specs.Simulation.{IsSimulated, traced_rows}
+use Rattle.cycle_sim.specs.Simulation.{traced_rows}
 use Rattle.report.specs.Load.{load_line}
 use Rattle.known_planes.specs.Counts.{known_count}
-use Rattle.restore_program.specs.Tracing.{IsStimulus}
+use Rattle.restore_program.specs.Tracing.{IsDrawnRun}
 
 -- the netlist
 abbrev pub load_circuit : ℕ → ℕ → Circuit
@@ -27,9 +26,9 @@ load_cycles = 256
 abbrev pub load_traced : Circuit → List Sig
 load_traced c = take (max 1 (length (flip_flops c.drivers) / 4)) (flip_flops c.drivers)
 
--- the rows are the trace of these flip-flops in the simulated execution whose stimulus is drawn from the number
+-- the rows are the trace of these flip-flops in the run that is drawn from the number
 abbrev pub IsLoadTrace : Circuit → ℕ → List Row → Type 0
-IsLoadTrace c number rows = (stimulus : BitTable) × (v : Valuation) × IsStimulus c number load_cycles stimulus × IsSimulated c stimulus v × (rows ≡ traced_rows v load_cycles (load_traced c))
+IsLoadTrace c number rows = (v : Valuation) × IsDrawnRun c number load_cycles v × (rows ≡ traced_rows v load_cycles (load_traced c))
 
 -- how many flip-flop cells these rows give, and how many are known from them
 pub record AreCountsOf (c : Circuit) (rows : List Row) (counts : Counts) : Type 0 where
