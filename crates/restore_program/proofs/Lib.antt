@@ -5,6 +5,9 @@ pub mod AskedSimulation
 pub mod BadNumbers
 pub mod CommandShapes
 pub mod CommandWords
+pub mod DecidedNumbers
+pub mod DecidedShapes
+pub mod Deciding
 pub mod FewWords
 pub mod Gifts
 pub mod GivenKeys
@@ -25,3 +28,4 @@ pub mod Sounding
 pub mod TraceNames
 pub mod TraceSignals
 pub mod WordPlaces
+pub mod WordsDecided
