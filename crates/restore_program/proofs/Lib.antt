@@ -5,6 +5,9 @@ pub mod AskedSimulation
 pub mod BadNumbers
 pub mod CommandShapes
 pub mod CommandWords
+pub mod DecidedNumbers
+pub mod DecidedShapes
+pub mod Deciding
 pub mod FewWords
 pub mod Gifts
 pub mod GivenKeys
@@ -28,3 +31,4 @@ pub mod TraceNames
 pub mod TraceSignals
 pub mod WordPlaces
 pub mod WordStatuses
+pub mod WordsDecided

@@ -12,6 +12,7 @@ pub mod Sound
 pub mod Status
 pub mod TraceRefusals
 pub mod Tracing
+pub mod WordLaws
 pub mod WordMeaning
 pub mod WordRules
 pub mod Words
