@@ -1,16 +1,15 @@
 //! What is known of the signals, as a table.
 ghost use Rattle.std.specs.Prelude.{◌≡◌, ◌<◌, ◌≤◌, ◌+◌, ◌++◌, length, take};
-ghost use Rattle.sr_model.specs.declared.cells.Cell.{Cell as AnyCell};
-ghost use Rattle.sr_model.specs.Closure.{HasBoth, passing};
+ghost use Rattle.sr_model.specs.Decisions.{IsConsistent};
 ghost use Rattle.sr_text.specs.Numbers.{put_front};
 ghost use Rattle.netlist.specs.Wiring.{flip_flops, signals_below};
 ghost use Rattle.dump_reader.specs.Print.{bit_character};
 ghost use Rattle.ratio.specs.Ratio.{in_thousandths};
 ghost use Rattle.unroll.specs.Bits.{is_set};
 ghost use Rattle.unroll.specs.Problem.{signals_in};
-ghost use Rattle.known_planes.specs.Planes.{IsOf, has};
+ghost use Rattle.known_planes.specs.Planes.{IsOf, has, lits};
 ghost use Rattle.report.specs.Rows.{head_text, row_line, row_lines, cells_text, word_bit, word_text};
-ghost use Rattle.report.specs.Table.{known_count, ratio_line, ratio_text, shown, table_text};
+ghost use Rattle.report.specs.Table.{ratio_line, ratio_text, shown, table_text};
 ghost use Rattle.report.specs.Writes.{Writes};
 
 use crate::pieces::{write_pieces, write_text};
@@ -36,7 +35,7 @@ pub fn write_table<K: Sink>(
     out: &mut K,
 ) -> Result<(), WriteFault>
     requires of { IsOf p.now planes.now }
-    requires no_clash { (cell : AnyCell) → HasBoth (passing (has p.now planes.now)) cell → ⊥ }
+    requires no_clash { IsConsistent (lits p.now planes.now) }
     requires traced { traced ≤ 536870912 }
     ensures { Writes K.written K.room K.faults out.old out.new result (table_text p.now.circuit p.now.cycles (has p.now planes.now) traced all) }
 {
