@@ -49,8 +49,8 @@ pub(crate) fn unread(part: Part, refusal: ReadRefusal) -> Refusal
     ensures { result ≡ unread_refusal part refusal }
 {
     match refusal {
-        ReadRefusal::Fault => Refusal::Fault { part },
-        ReadRefusal::TooLong => Refusal::TooLong { part },
+        ReadRefusal::Fault => Refusal::Fault(part),
+        ReadRefusal::TooLong => Refusal::TooLong(part),
         ReadRefusal::NoMemory => Refusal::NoMemory,
     }
 }
@@ -68,14 +68,14 @@ fn parse_netlist(alloc: Global, bytes: &[u8]) -> Result<Netlist, Reply>
         Ok(statements) => statements,
         Err(refusal) => {
             return Err(Reply::Refused {
-                refusal: Refusal::Bench { refusal },
+                refusal: Refusal::Bench(refusal),
             });
         }
     };
     match build(alloc, &statements) {
         Ok(netlist) => Ok(netlist),
         Err(refusal) => Err(Reply::Refused {
-            refusal: Refusal::Net { refusal },
+            refusal: Refusal::Net(refusal),
         }),
     }
 }

@@ -69,15 +69,15 @@ fn refusal_status(refusal: &Refusal) -> Status
     ensures { result ≡ refusal_status refusal.now }
 {
     match refusal {
-        Refusal::Bench { refusal } => bench_status(refusal),
-        Refusal::Net { refusal } => net_status(refusal),
-        Refusal::Dumped { refusal } => dump_status(refusal),
-        Refusal::TooLong { part } => part_status(*part),
-        Refusal::Words { .. } | Refusal::TraceUnknown { .. } | Refusal::TraceTwice { .. } => {
+        Refusal::Bench(refusal) => bench_status(refusal),
+        Refusal::Net(refusal) => net_status(refusal),
+        Refusal::Dumped(refusal) => dump_status(refusal),
+        Refusal::TooLong(part) => part_status(*part),
+        Refusal::Words(_) | Refusal::TraceUnknown { .. } | Refusal::TraceTwice { .. } => {
             Status::Words
         }
         Refusal::CellsByWords { .. } => Status::Dump,
-        Refusal::Fault { .. } => Status::ReadFault,
+        Refusal::Fault(_) => Status::ReadFault,
         Refusal::NoMemory => Status::NoMemory,
     }
 }

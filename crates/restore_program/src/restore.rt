@@ -101,7 +101,7 @@ fn recorded_reply<R: Threads + Sync, C: Closer>(
         Ok(dump) => dump,
         Err(refusal) => {
             return Reply::Refused {
-                refusal: Refusal::Dumped { refusal },
+                refusal: Refusal::Dumped(refusal),
             };
         }
     };

@@ -159,7 +159,7 @@ fn reply_to<R: Threads + Sync, I: Inputs, C: Closer>(
         Ok(Settings::Print) => print_reply(alloc, inputs, words[1].as_str()),
         Ok(Settings::Load { number, signals }) => load_reply(rt, alloc, closer, number, signals),
         Err(refusal) => Reply::Refused {
-            refusal: Refusal::Words { refusal },
+            refusal: Refusal::Words(refusal),
         },
     }
 }
