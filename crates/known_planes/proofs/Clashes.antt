@@ -125,7 +125,7 @@ module _ (u : Unrolling) (planes : PlaneSet) (of : IsOf u planes) where
       let parts : (is_set (pair_in planes s.0 chunk).zero i ≡ true) × (is_set (pair_in planes s.0 chunk).one i ≡ true) = and_parts (is_set (pair_in planes s.0 chunk).zero i) (is_set (pair_in planes s.0 chunk).one i) both in
       let zero : is_set (words_at planes (block_at u s chunk)).zero i ≡ true = ap (λ (w : PinWord). is_set w.zero i) (sym (in-block s.0 chunk)) ∙ parts.0 in
       let one : is_set (words_at planes (block_at u s chunk)).one i ≡ true = ap (λ (w : PinWord). is_set w.one i) (sym (in-block s.0 chunk)) ∙ parts.1 in
-      let cycle : nat_lt (64 * chunk + i) u.cycles ≡ true = subst (λ n. nat_lt (64 * n + i) u.cycles ≡ true) (block-chunk u s chunk k) (of.no_further (block_at u s chunk) (block-within u s chunk k h) false i few zero) in
+      let cycle : nat_lt (64 * chunk + i) u.cycles ≡ true = subst (λ n. nat_lt (64 * n + i) u.cycles ≡ true) (block-chunk u s chunk k) (of.no_later (block_at u s chunk) (block-within u s chunk k h) false i few zero) in
       (and_from (nat_lt (64 * chunk + i) u.cycles) (has-bit false) cycle (there false zero), and_from (nat_lt (64 * chunk + i) u.cycles) (has-bit true) cycle (there true one))
     where
       has-bit : Bool → Bool
