@@ -1,5 +1,5 @@
 -- What a task forces, as the literals of the words of its blocks.
-use Rattle.std.specs.Prelude.{ℕ, ◌≡◌, ◌<◌, ◌==◌, ◌&&◌, ◌↔◌, Bool, IsTrue, IsFalse, List, [], ◌∷◌, length, nat_lt, slice_index_or, if◌then◌else◌}
+use Rattle.std.specs.Prelude.{ℕ, ◌≡◌, ◌%◌, ◌<◌, ◌==◌, ◌&&◌, ◌↔◌, Bool, true, IsTrue, IsFalse, List, [], ◌∷◌, length, nat_lt, slice_index_or, if◌then◌else◌}
 use Rattle.sr_model.specs.declared.cells.Lit.{Lit}
 use Rattle.sr_model.specs.declared.cells.Place.{Place}
 use Rattle.sr_model.specs.Closure.{ForcesAt, passing, lit}
@@ -27,6 +27,17 @@ pub record ForcedIn (u : Unrolling) (t : Task) (known : Lit → Bool) (l : Lit) 
   pub belongs : IsPlaceOf u t place
   pub forces : ForcesAt (unrolled u) (passing known) place l
 
+-- the same at an instance in a cycle of the mask, whose bit i is that of cycle 64 * chunk + i of the task's chunk; an instance is in the cycle of its place
+pub record ForcedInCycles (u : Unrolling) (t : Task) (mask : ℕ) (known : Lit → Bool) (l : Lit) : Type 0 where
+  pub place : Place
+  pub belongs : IsPlaceOf u t place
+  pub in_mask : is_set mask (place.cycle % 64) ≡ true
+  pub forces : ForcesAt (unrolled u) (passing known) place l
+
+-- what the task forces from these literals is among them
+abbrev pub IsDone : Unrolling → Task → (Lit → Bool) → Type 0
+IsDone u t known = (l : Lit) → ForcedIn u t known l → known l ≡ true
+
 -- bit i of the words for block j
 abbrev pub bit_at_place : List PinWord → ℕ → Bool → ℕ → Bool
 bit_at_place words j bit i = is_set (word_for bit (words_at words j)) i
@@ -41,7 +52,13 @@ IsForcedExactly u t blocks view words =
     (j i : ℕ) (bit : Bool) → j < length blocks → i < 64
     → IsTrue (bit_at_place words j bit i) ↔ ForcedIn u t (view_has u blocks view) (lit_at_place u blocks j bit i)
 
--- the words hold exactly what of it the view does not have
+-- the words hold exactly what it forces in the cycles of the mask
+abbrev pub IsForcedExactlyIn : Unrolling → Task → ℕ → List Block → List PinWord → List PinWord → Type 0
+IsForcedExactlyIn u t mask blocks view words =
+    (j i : ℕ) (bit : Bool) → j < length blocks → i < 64
+    → IsTrue (bit_at_place words j bit i) ↔ ForcedInCycles u t mask (view_has u blocks view) (lit_at_place u blocks j bit i)
+
+-- the words hold exactly what of all that it forces the view does not have
 abbrev pub IsNewExactly : Unrolling → Task → List Block → List PinWord → List PinWord → Type 0
 IsNewExactly u t blocks view words =
     (j i : ℕ) (bit : Bool) → j < length blocks → i < 64
