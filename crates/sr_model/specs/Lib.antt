@@ -1,5 +1,6 @@
 pub mod AndLike
 pub mod Closure
+pub mod Decisions
 pub mod Declaration
 pub mod Dump
 pub mod Gate
