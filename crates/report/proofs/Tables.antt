@@ -24,7 +24,8 @@ use Rattle.sr_model.specs.Dump.{Row}
 use Rattle.netlist.specs.Circuit.{Circuit}
 use Rattle.dump_reader.specs.Print.{row_text, with_line_feed, printed}
 use Rattle.report.specs.Rows.{head_text, row_lines}
-use Rattle.report.specs.Table.{known_row, known_count, ratio_line, shown, table_text}
+use Rattle.known_planes.specs.Counts.{known_count}
+use Rattle.report.specs.Table.{known_row, ratio_line, shown, table_text}
 
 -- the head and the rows of these signals
 pub printed_parts : (c : Circuit) (cycles : ℕ) (known : Lit → Bool) (sigs : List Sig) →

@@ -10,7 +10,8 @@ ghost use Rattle.unroll.specs.Bits.{is_set};
 ghost use Rattle.unroll.specs.Problem.{signals_in};
 ghost use Rattle.known_planes.specs.Planes.{IsOf, has};
 ghost use Rattle.report.specs.Rows.{head_text, row_line, row_lines, cells_text, word_bit, word_text};
-ghost use Rattle.report.specs.Table.{known_count, ratio_line, ratio_text, shown, table_text};
+ghost use Rattle.known_planes.specs.Counts.{known_count};
+ghost use Rattle.report.specs.Table.{ratio_line, ratio_text, shown, table_text};
 ghost use Rattle.report.specs.Writes.{Writes};
 
 use crate::pieces::write_pieces;

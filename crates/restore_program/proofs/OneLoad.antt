@@ -12,7 +12,7 @@ use Rattle.cycle_sim.specs.Load.{IsLoadSize, load_statements}
 use Rattle.cycle_sim.proofs.LoadNets.{all-stated, is-netlist}
 use Rattle.report.proofs.CommentLine.{shown_within}
 use Rattle.report.specs.Load.{load_line}
-use Rattle.report.specs.Table.{known_count}
+use Rattle.known_planes.specs.Counts.{known_count}
 use Rattle.restore_program.specs.declared.reply.Loaded.{Loaded}
 use Rattle.restore_program.specs.Loading.{IsCounted, IsLoadText, IsLoadTrace, IsLoaded, load_circuit, load_cycles, load_traced}
 use Rattle.restore_program.proofs.OneRun.{one_trace}

@@ -30,7 +30,8 @@ use Rattle.report.specs.declared.refusal.WordRefusal.TheVariants as word_refusal
 use Rattle.report.specs.Clash.{clash_line}
 use Rattle.report.specs.InputRefusals.{bench_line, dump_line, fault_line, net_line, no_memory_line, too_long_line}
 use Rattle.report.specs.Refusals.{word_line}
-use Rattle.report.specs.Table.{known_count, table_text}
+use Rattle.known_planes.specs.Counts.{known_count}
+use Rattle.report.specs.Table.{table_text}
 use Rattle.restore_program.specs.declared.reply.Reply.{Reply}
 use Rattle.restore_program.specs.declared.reply.Reply.TheVariants as replies
 use Rattle.restore_program.specs.declared.status.Status.{Status}

@@ -12,7 +12,7 @@ use Rattle.cycle_sim.specs.BitTable.{BitTable}
 use Rattle.cycle_sim.specs.Load.{IsLoadSize, load_statements}
 use Rattle.cycle_sim.specs.Simulation.{IsSimulated, traced_rows}
 use Rattle.report.specs.Load.{load_line}
-use Rattle.report.specs.Table.{known_count}
+use Rattle.known_planes.specs.Counts.{known_count}
 use Rattle.restore_program.specs.declared.reply.Loaded.{Loaded}
 use Rattle.restore_program.specs.Tracing.{IsStimulus}
 
