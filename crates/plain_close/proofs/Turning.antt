@@ -1,5 +1,5 @@
 -- The turn of a task, and turns one after another.
-use Rattle.std.proofs.Common.{ℕ, ◌≡◌, ◌<◌, ◌≤◌, ◌+◌, ◌*◌, ◌/◌, ◌%◌, ◌⊎◌, ◌&&◌, Bool, true, false, eqb, ltb, List, [], ◌∷◌, length, map, get_or, arith, inl, inr, refl, sym, ap, subst, ◌∙◌}
+use Rattle.std.proofs.Common.{ℕ, ◌≡◌, ◌<◌, ◌≤◌, ◌⊎◌, ◌&&◌, Bool, true, false, eqb, ltb, List, [], ◌∷◌, length, map, get_or, arith, inl, inr, refl, sym, ap, subst, ◌∙◌}
 use Rattle.std.specs.List.{Contains}
 use Rattle.std.proofs.lemmas.Bool.{cases_eq, cond-true, cond-false, eq-eqb, ne_eqb, and_parts, and_from, lt-ltb, ltb-true, true≢false}
 use Rattle.std.proofs.lemmas.List.{get_or_default, length-map}
@@ -13,9 +13,9 @@ use Rattle.unroll.specs.declared.problem.Block.{Block}
 use Rattle.unroll.specs.declared.problem.Task.{Task}
 use Rattle.unroll.specs.declared.words.PinWord.{PinWord}
 use Rattle.unroll.specs.Bits.{is_set, word_for}
-use Rattle.unroll.specs.Problem.{Unrolling, unrolled, IsProblem, chunks_in, sig_at, chunk_at, block_of, bit_of, cell_of}
+use Rattle.unroll.specs.Problem.{Unrolling, unrolled, IsProblem, chunks_in, block_of, bit_of, cell_of}
 use Rattle.unroll.specs.Tasks.{IsTask, IsCellOf, task_at, target_of, chunk_of, blocks_of, blocks_from}
-use Rattle.unroll.proofs.BlockNumbers.{block-sig, block-chunk, cycle-chunk, task-itself}
+use Rattle.unroll.proofs.BlockNumbers.{task-itself}
 use Rattle.unroll.proofs.BlockCells.{cell-itself, bit-small, blocks-at}
 use Rattle.unroll.proofs.WordBits.{is_set_zero}
 use Rattle.unroll.proofs.TaskCells.{have_its_cells}
