@@ -16,3 +16,4 @@ pub mod OddWords
 pub mod ParityExact
 pub mod SettledOnce
 pub mod TaskForcing
+pub mod TaskViews

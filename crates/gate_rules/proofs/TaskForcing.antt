@@ -26,33 +26,35 @@ pub forced_on_cells : (u : Unrolling) (t : Task) (known : Lit → Bool) (l : Lit
 forced_on_cells u t known l f = (forced-cell u t known l f, forced-in_time u t known l f)
 
 -- where one set has the other's literals on the task's cells, it forces what the other does
-pub forced_by_cells : (u : Unrolling) (t : Task) (few many : Lit → Bool) → ((c : Cell) (bit : Bool) → IsCellOf u t c → few (lit c bit) ≡ true → many (lit c bit) ≡ true)
-    → (l : Lit) → ForcedIn u t few l → ForcedIn u t many l
-forced_by_cells u t few many grows l f = record {
-  place = f.place;
-  belongs = f.belongs;
-  forces = record {
-    instance = f.forces.instance;
-    stands = f.forces.stands;
+module _ (u : Unrolling) (t : Task) (few many : Lit → Bool) (grows : (c : Cell) (bit : Bool) → IsCellOf u t c → few (lit c bit) ≡ true → many (lit c bit) ≡ true) where
+  forces_by_cells : (p : Place) → IsPlaceOf u t p → (l : Lit) → ForcesAt (unrolled u) (passing few) p l → ForcesAt (unrolled u) (passing many) p l
+  forces_by_cells p of l f = record {
+    instance = f.instance;
+    stands = f.stands;
     forces = record {
-      on_cells = f.forces.forces.on_cells;
-      part = f.forces.forces.part;
-      part_known = All-from_Contains (passing many) f.forces.forces.part (λ x h.
+      on_cells = f.forces.on_cells;
+      part = f.forces.part;
+      part_known = All-from_Contains (passing many) f.forces.part (λ x h.
           grows x.cell x.bit (record {
-            place = f.place;
-            belongs = f.belongs;
-            instance = f.forces.instance;
-            stands = f.forces.stands;
-            has_cell = All-contains (λ (y : Lit). Contains (cells_of f.forces.instance) y.cell) f.forces.forces.part x f.forces.forces.part_on_cells h;
-          }) (All-contains (passing few) f.forces.forces.part x f.forces.forces.part_known h));
-      part_on_cells = f.forces.forces.part_on_cells;
-      row = f.forces.forces.row;
-      is_row = f.forces.forces.is_row;
-      row_agrees = f.forces.forces.row_agrees;
-      forced = f.forces.forces.forced;
+            place = p;
+            belongs = of;
+            instance = f.instance;
+            stands = f.stands;
+            has_cell = All-contains (λ (y : Lit). Contains (cells_of f.instance) y.cell) f.forces.part x f.forces.part_on_cells h;
+          }) (All-contains (passing few) f.forces.part x f.forces.part_known h));
+      part_on_cells = f.forces.part_on_cells;
+      row = f.forces.row;
+      is_row = f.forces.is_row;
+      row_agrees = f.forces.row_agrees;
+      forced = f.forces.forced;
     };
-  };
-}
+  }
+
+  pub forced_by_cells : (l : Lit) → ForcedIn u t few l → ForcedIn u t many l
+  forced_by_cells l f = record { place = f.place; belongs = f.belongs; forces = forces_by_cells f.place f.belongs l f.forces }
+
+  pub forced_in_cycles_by_cells : (mask : ℕ) (l : Lit) → ForcedInCycles u t mask few l → ForcedInCycles u t mask many l
+  forced_in_cycles_by_cells mask l f = record { place = f.place; belongs = f.belongs; in_mask = f.in_mask; forces = forces_by_cells f.place f.belongs l f.forces }
 
 -- a task's place in a cycle is the only one with the bit of the cycle
 one-place : (u : Unrolling) (t : Task) (p q : Place) → IsPlaceOf u t p → IsPlaceOf u t q → q.cycle % 64 ≡ p.cycle % 64 → q ≡ p

@@ -46,17 +46,29 @@ bit_at_place words j bit i = is_set (word_for bit (words_at words j)) i
 abbrev pub lit_at_place : Unrolling → List Block → ℕ → Bool → ℕ → Lit
 lit_at_place u blocks j bit i = lit (cell_of u (slice_index_or blocks j (record { 0 = 0 })) i) bit
 
+-- the words hold exactly the known literals of their blocks, in the cycles that are there
+abbrev pub IsViewOf : Unrolling → List Block → (Lit → Bool) → List PinWord → Type 0
+IsViewOf u blocks known words =
+    (j i : ℕ) (bit : Bool) → j < length blocks → i < 64 → (lit_at_place u blocks j bit i).cell.cycle < u.cycles
+    → bit_at_place words j bit i ≡ known (lit_at_place u blocks j bit i)
+
+-- the words hold exactly what the task forces from the known literals
+abbrev pub AreForcedBy : Unrolling → Task → List Block → (Lit → Bool) → List PinWord → Type 0
+AreForcedBy u t blocks known words =
+    (j i : ℕ) (bit : Bool) → j < length blocks → i < 64 → IsTrue (bit_at_place words j bit i) ↔ ForcedIn u t known (lit_at_place u blocks j bit i)
+
+-- the same in the cycles of the mask
+abbrev pub AreForcedInCyclesBy : Unrolling → Task → ℕ → List Block → (Lit → Bool) → List PinWord → Type 0
+AreForcedInCyclesBy u t mask blocks known words =
+    (j i : ℕ) (bit : Bool) → j < length blocks → i < 64 → IsTrue (bit_at_place words j bit i) ↔ ForcedInCycles u t mask known (lit_at_place u blocks j bit i)
+
 -- the words hold exactly what the task forces from those of the view
 abbrev pub IsForcedExactly : Unrolling → Task → List Block → List PinWord → List PinWord → Type 0
-IsForcedExactly u t blocks view words =
-    (j i : ℕ) (bit : Bool) → j < length blocks → i < 64
-    → IsTrue (bit_at_place words j bit i) ↔ ForcedIn u t (view_has u blocks view) (lit_at_place u blocks j bit i)
+IsForcedExactly u t blocks view words = AreForcedBy u t blocks (view_has u blocks view) words
 
--- the words hold exactly what it forces in the cycles of the mask
+-- the same in the cycles of the mask
 abbrev pub IsForcedExactlyIn : Unrolling → Task → ℕ → List Block → List PinWord → List PinWord → Type 0
-IsForcedExactlyIn u t mask blocks view words =
-    (j i : ℕ) (bit : Bool) → j < length blocks → i < 64
-    → IsTrue (bit_at_place words j bit i) ↔ ForcedInCycles u t mask (view_has u blocks view) (lit_at_place u blocks j bit i)
+IsForcedExactlyIn u t mask blocks view words = AreForcedInCyclesBy u t mask blocks (view_has u blocks view) words
 
 -- the words hold exactly what of all that it forces the view does not have
 abbrev pub IsNewExactly : Unrolling → Task → List Block → List PinWord → List PinWord → Type 0

@@ -1,13 +1,14 @@
 -- The laws of what tasks force, for every problem and each set of literals that a test gives.
-use Rattle.std.specs.Prelude.{◌≡◌, ◌^◌, ◌%◌, ◌<◌, ◌↔◌, ◌⊎◌, Bool, true, false}
+use Rattle.std.specs.Prelude.{ℕ, ◌≡◌, ◌^◌, ◌%◌, ◌<◌, ◌↔◌, ◌⊎◌, Bool, true, false, List, length}
 use Rattle.sr_model.specs.declared.cells.Cell.{Cell}
 use Rattle.sr_model.specs.declared.cells.Lit.{Lit}
 use Rattle.sr_model.specs.declared.cells.Place.{Place}
 use Rattle.sr_model.specs.Closure.{ForcesAt, HasBoth, IsClosed, IsWithin, lit, passing}
 use Rattle.unroll.specs.declared.problem.Task.{Task}
-use Rattle.unroll.specs.Problem.{Unrolling, unrolled}
-use Rattle.unroll.specs.Tasks.{IsTask, IsPlaceOf, IsCellOf, drives_itself, target_of}
-use Rattle.gate_rules.specs.Forced.{ForcedIn, ForcedInCycles, IsDone}
+use Rattle.unroll.specs.declared.words.PinWord.{PinWord}
+use Rattle.unroll.specs.Problem.{Unrolling, unrolled, IsProblem}
+use Rattle.unroll.specs.Tasks.{IsTask, IsPlaceOf, IsCellOf, drives_itself, target_of, blocks_of}
+use Rattle.gate_rules.specs.Forced.{ForcedIn, ForcedInCycles, IsDone, IsViewOf, AreForcedBy, AreForcedInCyclesBy, IsForcedExactly, IsForcedExactlyIn}
 
 -- what a task forces is of its own cells, in cycles that are there
 abbrev pub ForcedOnCells : Type 0
@@ -18,6 +19,14 @@ abbrev pub ForcedByCells : Type 0
 ForcedByCells =
     (u : Unrolling) (t : Task) (few many : Lit → Bool) → ((c : Cell) (bit : Bool) → IsCellOf u t c → few (lit c bit) ≡ true → many (lit c bit) ≡ true)
     → IsWithin (ForcedIn u t few) (ForcedIn u t many)
+
+-- so a view of known literals shows a task what they force, in all cycles as in those of a mask
+abbrev pub ForcedByView : Type 0
+ForcedByView =
+    (u : Unrolling) (t : Task) (known : Lit → Bool) (view words : List PinWord) → IsProblem u → IsTask u t
+    → length view ≡ length (blocks_of u t) → IsViewOf u (blocks_of u t) known view
+    → (IsForcedExactly u t (blocks_of u t) view words → AreForcedBy u t (blocks_of u t) known words)
+    × ((mask : ℕ) → IsForcedExactlyIn u t mask (blocks_of u t) view words → AreForcedInCyclesBy u t mask (blocks_of u t) known words)
 
 -- in the mask of one cycle it is what the instance at the task's place in this cycle forces
 abbrev pub ForcedAtPlace : Type 0
