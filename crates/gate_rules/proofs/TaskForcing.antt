@@ -1,5 +1,5 @@
 -- What a task forces, by its cells, its places and its turns.
-use Rattle.std.proofs.Common.{ℕ, ◌≡◌, ◌^◌, ◌%◌, ◌*◌, ◌+◌, ◌/◌, ◌<◌, ◌⊎◌, ◌↔◌, Bool, true, false, arith, inl, inr, sym, ap, subst, ◌∙◌}
+use Rattle.std.proofs.Common.{ℕ, ◌≡◌, ◌^◌, ◌%◌, ◌/◌, ◌<◌, ◌⊎◌, ◌↔◌, Bool, true, false, arith, inl, inr, sym, ap, subst, ◌∙◌}
 use Rattle.std.specs.List.{Contains}
 use Rattle.std.proofs.lemmas.List.Elements.{All-contains}
 use Rattle.sr_model.specs.declared.cells.Cell.{Cell}

@@ -1,5 +1,5 @@
 -- What a task forces from a view of known literals.
-use Rattle.std.proofs.Common.{ℕ, ◌≡◌, ◌<◌, ◌+◌, ◌*◌, ◌/◌, ◌%◌, Bool, true, List, length, get_or, sym, ap, subst, ◌∙◌}
+use Rattle.std.proofs.Common.{ℕ, ◌≡◌, ◌<◌, Bool, true, List, length, get_or, sym, ap, subst, ◌∙◌}
 use Rattle.std.specs.List.{AllPairs, Contains}
 use Rattle.std.proofs.lemmas.List.{get_or_default}
 use Rattle.sr_model.specs.declared.cells.Cell.{Cell}
@@ -14,7 +14,7 @@ use Rattle.unroll.proofs.BlockNumbers.{some_chunk, chunk-within}
 use Rattle.unroll.proofs.BlockCells.{cell-itself, bit-small}
 use Rattle.unroll.proofs.TaskBlocks.{blocks-ascend}
 use Rattle.unroll.proofs.TaskCells.{role, cell-in_time, have_its_cells}
-use Rattle.gate_rules.specs.Forced.{IsViewOf, AreForcedBy, AreForcedInCyclesBy, IsForcedExactly, IsForcedExactlyIn, bit_at_place, lit_at_place, view_has}
+use Rattle.gate_rules.specs.Forced.{IsViewOf, AreForcedBy, AreForcedInCyclesBy, IsForcedExactly, IsForcedExactlyIn, lit_at_place, view_has}
 use Rattle.gate_rules.proofs.NewLiterals.{view-at}
 use Rattle.gate_rules.proofs.TaskForcing.{forced_by_cells, forced_in_cycles_by_cells}
 

@@ -1,5 +1,5 @@
 -- The tasks that a block is in, by their places in the list.
-use Rattle.std.proofs.Common.{ℕ, zero, suc, ◌≡◌, ◌-◌, ◌<◌, ◌≤◌, ◌&&◌, true, false, not, eqb, ltb, cond, get_or, option_map, Option, Some, None, List, [], ◌∷◌, ◌++◌, map, length, arith, inl, inr, refl, sym, ap, ◌∙◌, subst, slice_get}
+use Rattle.std.proofs.Common.{ℕ, zero, suc, ◌≡◌, ◌-◌, ◌<◌, ◌≤◌, ◌&&◌, true, not, eqb, ltb, cond, get_or, option_map, Option, Some, None, List, [], ◌∷◌, ◌++◌, map, length, arith, inl, inr, refl, sym, ap, ◌∙◌, subst, slice_get}
 use Rattle.std.specs.List.{All, Contains}
 use Rattle.std.specs.Prelude.{IfSome}
 use Rattle.std.proofs.lemmas.Bool.{cases_Bool, cond-true, cond-false, true≢false}

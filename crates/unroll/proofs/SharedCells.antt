@@ -1,5 +1,5 @@
 -- Two instances of a task have no cell in common, unless its flip-flop drives itself.
-use Rattle.std.proofs.Common.{◌≡◌, ◌+◌, true, false, List, arith, inl, inr, sym, ap, subst, ◌∙◌}
+use Rattle.std.proofs.Common.{◌≡◌, ◌+◌, true, false, arith, inl, inr, sym, ap, subst, ◌∙◌}
 use Rattle.std.specs.List.{Contains}
 use Rattle.std.proofs.lemmas.Bool.{and_from, true≢false}
 use Rattle.sr_model.specs.declared.cells.Sig.{Sig}

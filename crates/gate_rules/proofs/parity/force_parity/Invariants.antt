@@ -1,4 +1,4 @@
-use Rattle.std.proofs.Common.{◌≡◌, ◌<◌, ◌≤◌, ◌&&◌, ℕ, Bool, length}
+use Rattle.std.proofs.Common.{◌≡◌, ◌<◌, ◌&&◌, ℕ, Bool, length}
 use Rattle.unroll.specs.Bits.{is_set, word_for}
 use Rattle.gate_rules.specs.Lanes.{words_at}
 use Rattle.gate_rules.specs.OddPlaces.{parity_bit}

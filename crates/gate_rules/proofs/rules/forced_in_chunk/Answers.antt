@@ -1,4 +1,3 @@
-use Rattle.std.proofs.Common.{◌∙◌}
 use Rattle.unroll.specs.Tasks.{task_at}
 use Rattle.gate_rules.proofs.CycleMasks.{each_set}
 use Rattle.gate_rules.proofs.NewLiterals.{exactly-all}
