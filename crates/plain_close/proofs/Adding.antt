@@ -19,7 +19,7 @@ use Rattle.known_planes.specs.Planes.{PlaneSet, has, lits, words_at, IsOf}
 use Rattle.known_planes.proofs.PlanesLaws.{literals_are_of_cells}
 use Rattle.plain_close.specs.Queues.{Waiting, Waits}
 use Rattle.plain_close.specs.Turns.{AreTasksOf, IsSettled, Pushed, Wakes, Joins, Adds, AddsRow, has_bit}
-use Rattle.plain_close.proofs.SameCells.{forced-on_cells}
+use Rattle.gate_rules.proofs.TaskForcing.{forced_by_cells}
 use Rattle.plain_close.proofs.Waking.{member-cases}
 use Rattle.plain_close.proofs.Turning.{has-bit_of, bit-has, has-kept}
 
@@ -89,7 +89,7 @@ still-settled u x z before after settled wakes t is =
       | inl waits ↦ inl waits
       | inr same ↦ elim (settled t is) [
         | inl waited ↦ inl (wakes.kept t waited)
-        | inr done ↦ inr (λ l f. has-kept u x z wakes.bits l (done l (forced-on_cells u t (has u z) (has u x) (λ c bit of h. sym (same c bit of) ∙ h) l f)))
+        | inr done ↦ inr (λ l f. has-kept u x z wakes.bits l (done l (forced_by_cells u t (has u z) (has u x) (λ c bit of h. sym (same c bit of) ∙ h) l f)))
       ]
     ]
 
@@ -103,7 +103,7 @@ settled-empty u is planes before after none p t task =
   where
     from_nothing : (l : Lit) → ForcedIn u t (has u planes) l → ForcesFromNothing u t
     from_nothing l f =
-        let g : ForcedIn u t (λ _. false) l = forced-on_cells u t (has u planes) (λ _. false) (λ c bit of h. absurd (true≢false (sym h ∙ none (lit c bit)))) l f in
+        let g : ForcedIn u t (λ _. false) l = forced_by_cells u t (has u planes) (λ _. false) (λ c bit of h. absurd (true≢false (sym h ∙ none (lit c bit)))) l f in
         record { place = g.place; belongs = g.belongs; l = l; forces = g.forces }
 
 -- where the planes are closed, all tasks are done

@@ -1,8 +1,6 @@
 pub mod Adding
 pub mod Joining
 pub mod Pushing
-pub mod SameCells
-pub mod SettledOnce
 pub mod FreshBits
 pub mod TurnedTasks
 pub mod NoClash

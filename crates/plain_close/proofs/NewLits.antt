@@ -1,5 +1,5 @@
 -- Bits that a word gains, and the literals that they are.
-use Rattle.std.proofs.Common.{ℕ, ◌≡◌, ◌+◌, ◌*◌, ◌<◌, ◌≤◌, ◌^◌, ◌/◌, ◌%◌, Bool, true, false, eqb, bit_xor, arith, inl, inr, refl, sym, ap, ◌∙◌}
+use Rattle.std.proofs.Common.{ℕ, ◌≡◌, ◌<◌, ◌≤◌, ◌^◌, Bool, true, false, eqb, bit_xor, arith, inl, inr, refl, sym, ap, ◌∙◌}
 use Rattle.std.specs.Int.{bit_at, w64, trailing_zeros}
 use Rattle.std.specs.Prelude.{IsTrue}
 use Rattle.std.proofs.Math.Facts.{Fits-xor}
@@ -12,8 +12,8 @@ use Rattle.sr_model.specs.Closure.{lit}
 use Rattle.unroll.specs.declared.problem.Block.{Block}
 use Rattle.unroll.specs.declared.words.PinWord.{PinWord}
 use Rattle.unroll.specs.Bits.{is_set, word_for}
-use Rattle.unroll.specs.Problem.{Unrolling, signals_in, chunks_in, block_at, block_of, chunk_at, sig_at, bit_of, cell_of}
-use Rattle.unroll.proofs.BlockNumbers.{block-itself, block-within}
+use Rattle.unroll.specs.Problem.{Unrolling, signals_in, chunks_in, block_at, block_of, bit_of, cell_of}
+use Rattle.unroll.proofs.BlockNumbers.{block-within}
 use Rattle.unroll.proofs.BlockCells.{cell-bit}
 use Rattle.unroll.proofs.WordBits.{differ, is_set_xor, is_set_zero}
 use Rattle.known_planes.specs.Planes.{PlaneSet, IsOf, has, joined, words_at}

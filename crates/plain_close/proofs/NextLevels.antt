@@ -18,7 +18,7 @@ use Rattle.plain_close.specs.declared.levels.Level.{Level}
 use Rattle.plain_close.specs.Queues.{Waiting}
 use Rattle.plain_close.specs.Turns.{IsSettled, Wakes, HaveNoClash, block_in, has_bit}
 use Rattle.plain_close.specs.Levels.{IsLevel, IsNext, IsNoted}
-use Rattle.plain_close.proofs.SameCells.{forced-on_cells}
+use Rattle.gate_rules.proofs.TaskForcing.{forced_by_cells}
 use Rattle.plain_close.proofs.Turning.{has-kept, has-bit_of, bit-has}
 
 -- The next planes have all that these force, and the blocks in which they differ were taken over.
@@ -45,7 +45,7 @@ module _ (u : Unrolling) (planes next : PlaneSet) (changed : List InChunk) (note
         elim (wakes.woken t) [
           | inl waits ↦ inl waits
           | inr unchanged ↦ inr (λ l f.
-              let g = forced-on_cells u t (has u after) (has u planes) (λ c bit of h. sym (unchanged c bit of) ∙ h) l f in
+              let g = forced_by_cells u t (has u after) (has u planes) (λ c bit of h. sym (unchanged c bit of) ∙ h) l f in
               to-after l (adds.1 l (inr (g.place, g.forces))))
         ]
 

@@ -8,7 +8,6 @@ use Rattle.std.proofs.lemmas.List.{take_more, take_all, map-append}
 use Rattle.std.proofs.lemmas.List.Elements.{Contains-push_cases}
 use Rattle.sr_model.specs.declared.cells.Cell.{Cell}
 use Rattle.sr_model.specs.Closure.{HasBoth}
-use Rattle.sr_model.proofs.Members.{not_in_nil}
 use Rattle.unroll.specs.declared.words.PinWord.{PinWord}
 use Rattle.unroll.specs.Bits.{is_set}
 use Rattle.unroll.specs.Problem.{Unrolling}

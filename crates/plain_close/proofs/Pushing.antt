@@ -1,16 +1,16 @@
 -- Tasks that wait, task after task.
-use Rattle.std.proofs.Common.{ℕ, ◌≡◌, ◌<◌, ◌≤◌, ◌⊎◌, ◌+◌, true, not, eqb, Some, None, List, [], ◌∷◌, ◌++◌, length, map, get_or, take, inl, inr, refl, sym, ap, subst, ◌∙◌}
+use Rattle.std.proofs.Common.{ℕ, ◌≡◌, ◌<◌, ◌≤◌, ◌⊎◌, ◌+◌, true, not, eqb, Some, List, [], ◌∷◌, ◌++◌, length, map, get_or, take, inl, inr, refl, sym, ap, subst, ◌∙◌}
 use Rattle.std.specs.List.{Contains}
 use Rattle.std.proofs.lemmas.List.{take_more, take_all, append_assoc, map-append}
 use Rattle.std.proofs.lemmas.List.Elements.{Contains-append_cases, Contains-get_or}
 use Rattle.sr_model.specs.declared.cells.Sig.{Sig}
 use Rattle.sr_model.specs.declared.gates.Kind.{Kind}
-use Rattle.sr_model.specs.declared.gates.Kind.TheVariants.{And, Nand, Or, Nor, Xor, Xnor, Not, Buf, Dff}
+use Rattle.sr_model.specs.declared.gates.Kind.TheVariants.{Dff}
 use Rattle.sr_model.specs.Netlist.{Driver, Input, Driven}
 use Rattle.sr_model.proofs.Members.{not_in_nil, Contains-cases, filter-member, filter-passes}
 use Rattle.netlist.specs.Wiring.{driver_at, kind_of, is_flip_flop, is_driven, reads, other_readers, signals_below, readers}
 use Rattle.unroll.specs.declared.problem.Task.{Task}
-use Rattle.unroll.specs.Problem.{Unrolling, IsProblem, signals_in, chunks_in}
+use Rattle.unroll.specs.Problem.{Unrolling, IsProblem, chunks_in}
 use Rattle.unroll.specs.Tasks.{IsTask, task_at, target_of, target_block, chunk_of, constant_tasks}
 use Rattle.unroll.proofs.BlockNumbers.{block-sig, block-chunk, sig-within, chunk-within, some_chunk, task-itself}
 use Rattle.unroll.proofs.AdjacentTasks.{reader-within}

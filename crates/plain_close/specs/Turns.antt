@@ -7,14 +7,14 @@ use Rattle.sr_model.specs.declared.cells.Cell.{Cell}
 use Rattle.sr_model.specs.declared.cells.Lit.{Lit}
 use Rattle.sr_model.specs.Closure.{Closure, IsWithin, lit}
 use Rattle.sr_model.specs.Netlist.{Driver, Input, Driven}
-use Rattle.netlist.specs.Wiring.{driver_at, is_driven, is_flip_flop, reads, other_readers}
+use Rattle.netlist.specs.Wiring.{driver_at, is_driven, reads, other_readers}
 use Rattle.unroll.specs.declared.problem.Block.{Block}
 use Rattle.unroll.specs.declared.problem.Task.{Task}
 use Rattle.unroll.specs.declared.words.PinWord.{PinWord}
 use Rattle.unroll.specs.Bits.{is_set, word_for}
 use Rattle.unroll.specs.Problem.{Unrolling, IsProblem, HaveNoLaterBit, unrolled, signals_in, chunks_in, block_at}
-use Rattle.unroll.specs.Tasks.{IsTask, IsCellOf, drives_itself, task_at, target_of, chunk_of, blocks_from}
-use Rattle.gate_rules.specs.Forced.{ForcedIn, IsForcedExactly, bit_at_place}
+use Rattle.unroll.specs.Tasks.{IsTask, IsCellOf, task_at, target_of, chunk_of, blocks_from}
+use Rattle.gate_rules.specs.Forced.{ForcedIn, IsDone, IsForcedExactly, bit_at_place}
 use Rattle.known_planes.specs.Planes.{PlaneSet, has, lits, words_at, IsOf}
 use Rattle.plain_close.specs.declared.task_queues.InChunk.{InChunk}
 use Rattle.plain_close.specs.Queues.{Waiting, Waits, IsFirst}
@@ -33,10 +33,6 @@ pub record AreTasksOf (u : Unrolling) (q : Waiting) : Type 0 where
 
 abbrev pub TaskWaits : Unrolling → Waiting → Task → Type 0
 TaskWaits u q t = Waits q (target_of u t) (chunk_of u t)
-
--- what the task forces from these literals is among them
-abbrev pub IsDone : Unrolling → Task → (Lit → Bool) → Type 0
-IsDone u t known = (l : Lit) → ForcedIn u t known l → known l ≡ true
 
 -- each task waits or is done
 abbrev pub IsSettled : Unrolling → PlaneSet → Waiting → Type 0

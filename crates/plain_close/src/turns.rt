@@ -8,9 +8,10 @@ ghost use Rattle.unroll.specs.declared.problem.Block.{Block as AnyBlock};
 ghost use Rattle.unroll.specs.Bits.{is_set, word_for};
 ghost use Rattle.unroll.specs.Problem.{HaveNoLaterBit, IsProblem, unrolled, signals_in, chunks_in, block_at, HasNoLaterBit};
 ghost use Rattle.unroll.specs.Tasks.{task_at, blocks_from, blocks_for, drives_itself, goes_on_from};
+ghost use Rattle.gate_rules.specs.Forced.{IsDone};
 ghost use Rattle.known_planes.specs.Planes.{IsOf, has, lits, joined};
 ghost use Rattle.plain_close.specs.Queues.{Waits, IsFirst, waiting_count};
-ghost use Rattle.plain_close.specs.Turns.{IsTaskAt, AreTasksOf, IsSettled, IsDone, IsInside, Pushed, Wakes, Falls, Joins, JoinsFirst, Sees, AreForced, Turns, Between, HaveNoClash, block_in, missing_of, before_woken, chunk_woken, own_woken, woken_from};
+ghost use Rattle.plain_close.specs.Turns.{IsTaskAt, AreTasksOf, IsSettled, IsInside, Pushed, Wakes, Falls, Joins, JoinsFirst, Sees, AreForced, Turns, Between, HaveNoClash, block_in, missing_of, before_woken, chunk_woken, own_woken, woken_from};
 
 use crate::task_queues::{InChunk, TaskQueues};
 use gate_rules::forced_in_chunk;
