@@ -6,7 +6,7 @@ ghost use Rattle.sr_model.specs.Room.{texts};
 ghost use Rattle.netlist.specs.Numbering.{IsStatement};
 ghost use Rattle.bench_reader.specs.Grammar.{Spells, States, HasRightPins, Declares, is_short, signal_names};
 ghost use Rattle.bench_reader.specs.Refusal.{IsRefusal, IsLineRefusal, IsFormRefusal};
-ghost use Rattle.bench_reader.specs.Laws.{HasOneReading, IsRefusedOnce, IsReadOrRefused};
+ghost use Rattle.bench_reader.specs.Laws.{HasOneReading, IsRefusedOnce, ReadTextsAreNotRefused, IsReadOrRefused, SpellsStatements};
 ghost use Rattle.bench_reader.specs.Found.{form_with};
 
 use crate::form::{Form, read_form};
@@ -76,11 +76,13 @@ pub fn read_bench(alloc: Global, bytes: &[u8]) -> Result<Statements, BenchRefusa
     Ok(statements)
 }
 
-/// Each text has one reading, or is refused in one way, and never both.
+/// Each text has one reading, or is refused in one way, and never both. What it states are statements that `build` takes.
 pub fn bench_laws()
     ensures one_reading { HasOneReading }
     ensures one_refusal { IsRefusedOnce }
-    ensures not_both { IsReadOrRefused }
+    ensures not_both { ReadTextsAreNotRefused }
+    ensures read_or_refused { IsReadOrRefused }
+    ensures statements { SpellsStatements }
 {}
 
 /// The statement of a cut line that is not empty. The pins are room to read into.
