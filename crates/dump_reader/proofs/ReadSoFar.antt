@@ -98,12 +98,6 @@ row_refused names signals text r number line left rest (RowLength at) read is re
 row_refused names signals text r number line left rest (BadBit at) read is refused = row_fault _ names signals text r number at line left rest read is refused.0 refused.1
 row_refused names signals text r number line left rest NoMemory read is refused = tt
 
-pub head_refused : (names : List (List ℕ)) (signals : ℕ) (text : List ℕ) (past : ℕ) (lines : List (ℕ × List ℕ)) (e : DumpRefusal) → lines ≡ numbered text → past ≡ past_end text → IsHeadRefusal past lines e → IsRefusal names signals text e
-head_refused names signals text past lines (Head at) is last refused =
-    subst (λ n. FailsFirst IsHead n (numbered text) at) last (subst (λ (ls : List (ℕ × List ℕ)). FailsFirst IsHead past ls at) is refused)
-head_refused names signals text past lines NoMemory is last refused = tt
-head_refused names signals text past lines _ is last refused = absurd refused
-
 pub cycles_refused : (names : List (List ℕ)) (signals : ℕ) (text : List ℕ) (past : ℕ) (lines rest : List (ℕ × List ℕ)) (e : DumpRefusal) → lines ≡ numbered text → past ≡ past_end text → ReadsHead lines rest → IsCyclesRefusal signals past rest e
     → IsRefusal names signals text e
 cycles_refused names signals text past lines rest (Cycles at) is last head refused = record {
