@@ -9,7 +9,7 @@ use Rattle.sr_model.specs.Gate.{IsPinCount}
 use Rattle.sr_model.specs.Declaration.{Declaration, InputNamed, OutputNamed, DriverNamed}
 use Rattle.bench_reader.specs.declared.reader.BenchRefusal.{BenchRefusal}
 use Rattle.bench_reader.specs.declared.reader.BenchRefusal.TheVariants.{Syntax, NameLong, UnknownKind, WrongPins, NoMemory}
-use Rattle.bench_reader.specs.Grammar.{Form, InputForm, OutputForm, DriverForm, HasForm, kind_named, is_short, signal_names, HasShortNames, HasRightPins, Declares, States, text_lines, Read, Spells}
+use Rattle.bench_reader.specs.Grammar.{Form, InputForm, OutputForm, DriverForm, HasForm, kind_named, is_short, signal_names, HasRightPins, Declares, States, text_lines, Read, Spells}
 use Rattle.bench_reader.specs.Refusal.{IsRefusal, IsLineRefusal, IsFormRefusal}
 use Rattle.bench_reader.specs.Laws.{IsReadOrRefused}
 use Rattle.bench_reader.proofs.FormOrNone.{form_or_none}

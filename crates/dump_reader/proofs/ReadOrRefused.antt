@@ -1,12 +1,10 @@
 -- Each text is a dump or is refused.
-use Rattle.std.proofs.Common.{◌≡◌, ◌≢◌, ◌⊎◌, ℕ, zero, suc, ◌<◌, ◌≤◌, List, [], ◌∷◌, ◌++◌, length, codes, refl, sym, ap, subst, ◌∙◌, inl, inr, arith}
+use Rattle.std.proofs.Common.{◌≡◌, ◌≢◌, ◌⊎◌, ℕ, zero, suc, ◌≤◌, List, [], ◌∷◌, ◌++◌, length, codes, refl, sym, subst, inl, inr, arith}
 use Rattle.std.specs.Fmt.{decimal}
 use Rattle.std.proofs.lemmas.Bool.{cases_eq, cases_lt}
-use Rattle.sr_model.specs.Dump.{Row}
-use Rattle.netlist.specs.Circuit.{Circuit}
 use Rattle.dump_reader.specs.declared.refusal.DumpRefusal.{DumpRefusal}
 use Rattle.dump_reader.specs.declared.refusal.DumpRefusal.TheVariants.{Head, Cycles, TooManyCells, NoMemory}
-use Rattle.dump_reader.specs.Recording.{Recording, IsCount}
+use Rattle.dump_reader.specs.Recording.{Recording}
 use Rattle.dump_reader.specs.Lines.{numbered, past_end, HasTwoTokens}
 use Rattle.dump_reader.specs.Grammar.{IsHead, IsCyclesLine, FailsFirst, Spells, block_count}
 use Rattle.dump_reader.specs.Refusal.{IsRefusal}

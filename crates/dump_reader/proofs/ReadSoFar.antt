@@ -13,8 +13,8 @@ use Rattle.dump_reader.specs.declared.refusal.DumpRefusal.TheVariants.{Head, Cyc
 use Rattle.dump_reader.specs.declared.dump.Tri.{Tri}
 use Rattle.dump_reader.specs.Recording.{Recording, recorded, bit_of, row_of}
 use Rattle.dump_reader.specs.Lines.{text_lines, numbered, numbered_from, past_end}
-use Rattle.dump_reader.specs.Grammar.{IsHead, IsCyclesLine, FailsFirst, HasFittingFront, StatesRow, StateRows, Spells, IsRowFault, bit_read}
-use Rattle.dump_reader.specs.Reading.{ReadsHead, ReadsCycles, IsHeadRefusal, IsCyclesRefusal}
+use Rattle.dump_reader.specs.Grammar.{IsCyclesLine, FailsFirst, HasFittingFront, StatesRow, StateRows, Spells, IsRowFault, bit_read}
+use Rattle.dump_reader.specs.Reading.{ReadsHead, ReadsCycles, IsCyclesRefusal}
 use Rattle.dump_reader.specs.Refusal.{IsRefusal, IsRowRefusal}
 
 -- the text's front and some lines state this recording, and these lines are left

@@ -14,7 +14,6 @@ use Rattle.dump_reader.specs.declared.refusal.DumpRefusal.TheVariants.{RowSyntax
 use Rattle.dump_reader.specs.Recording.{recorded}
 use Rattle.dump_reader.specs.Grammar.{NamesSignal, StatesRow, bit_read}
 use Rattle.dump_reader.specs.Refusal.{IsRowRefusal}
-use Rattle.dump_reader.specs.Lines.{HasTwoTokens}
 use Rattle.dump_reader.proofs.Tokens.{two_or_none}
 
 pub same_or_other : (a b : List ℕ) → (a ≡ b) ⊎ (a ≡ b → ⊥)

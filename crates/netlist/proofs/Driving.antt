@@ -18,7 +18,7 @@ use Rattle.sr_model.specs.Netlist.{Driver}
 use Rattle.sr_model.proofs.Members.{map-agree}
 use Rattle.netlist.specs.declared.wiring.Node.{Node}
 use Rattle.netlist.specs.Numbering.{driven_name, drives, pin_names, place_in, sig_in, stated_driver}
-use Rattle.netlist.specs.Wiring.{driver_of, driver_by, IsNodeWithin}
+use Rattle.netlist.specs.Nodes.{driver_of, driver_by, IsNodeWithin}
 use Rattle.netlist.specs.Checks.{IsDrivenOnce}
 use Rattle.netlist.specs.Driving.{kind_stated, node_at, driver_among, HoldsDrivers, AreWithin}
 use Rattle.netlist.proofs.Once.{has, has-append, has-there, has-here, Contains-from_has, lacks-from_has, IsApart}

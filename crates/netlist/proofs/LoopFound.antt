@@ -1,12 +1,12 @@
 -- Drivers have a loop, to which the walk comes, or none.
-use Rattle.std.proofs.Common.{ℕ, zero, suc, ◌≡◌, ◌+◌, ◌-◌, ◌<◌, ◌≤◌, ◌⊎◌, Bool, true, false, List, [], ◌∷◌, length, get_or, set, replicate, Option, Some, None, refl, ◌∙◌, inl, inr, arith, count_by}
+use Rattle.std.proofs.Common.{ℕ, zero, suc, ◌≡◌, ◌+◌, ◌-◌, ◌<◌, ◌≤◌, ◌⊎◌, Bool, true, false, List, [], ◌∷◌, length, get_or, set, replicate, Option, Some, None, refl, inl, inr, arith, count_by}
 use Rattle.std.proofs.lemmas.Bool.{cases_Bool}
 use Rattle.sr_model.specs.declared.cells.Sig.{Sig}
 use Rattle.sr_model.specs.Netlist.{Driver}
 use Rattle.netlist.specs.Loops.{HasNoLoop, IsLoop}
 use Rattle.netlist.specs.Ranking.{MarksFed, pin_at, pins_at}
 use Rattle.netlist.proofs.Marks.{number, marked_within}
-use Rattle.netlist.proofs.Ranking.{RankedOrFed, with_ranks, with_fed, ranked_or_fed, ranks_exclude_loops, pins_cases}
+use Rattle.netlist.proofs.Ranking.{with_ranks, with_fed, ranked_or_fed, ranks_exclude_loops, pins_cases}
 use Rattle.netlist.proofs.Walks.{Walking, Walking-begins, Walking-goes, Walking-ends, count-met, first_is_next, is_open}
 
 abbrev HasLoop : List Driver → Type 0

@@ -1,7 +1,7 @@
 -- What stands when no signal is left to be looked at: ranks, or signals that loops feed.
 use Rattle.std.proofs.Common.{ℕ, zero, suc, ◌≡◌, ◌+◌, ◌<◌, ◌≤◌, ◌⊎◌, Bool, true, false, List, [], ◌∷◌, length, get_or, set, refl, sym, ◌∙◌, subst, inl, inr, arith, count_by, IsTrue}
 use Rattle.std.specs.List.{All, Contains, filter}
-use Rattle.std.proofs.lemmas.Bool.{cases_Bool, cases_eq, both_ways, cond-true, cond-false, false_from_ne_true}
+use Rattle.std.proofs.lemmas.Bool.{cases_Bool, cases_eq, both_ways, cond-true, cond-false}
 use Rattle.std.proofs.lemmas.List.{get_or_default, ext_get_or}
 use Rattle.std.proofs.lemmas.List.Elements.{Contains-get_or}
 use Rattle.sr_model.proofs.Members.{filter-has, filter-passes}
@@ -9,7 +9,7 @@ use Rattle.sr_model.specs.declared.cells.Sig.{Sig}
 use Rattle.sr_model.specs.Netlist.{Driver}
 use Rattle.netlist.specs.Wiring.{driver_at, is_gate, signals_below}
 use Rattle.netlist.specs.Ranks.{greatest_rank, rank_by, IsRank, IsOrder}
-use Rattle.netlist.specs.Loops.{HasPinIn, EachHasPinWithin, IsFedByLoop, HasNoLoop}
+use Rattle.netlist.specs.Loops.{HasPinIn, EachHasPinWithin, IsFedByLoop}
 use Rattle.netlist.specs.Laws.{RanksAreUnique, RanksExcludeLoops, RanksExist}
 use Rattle.netlist.specs.Ranking.{Progress, start_of, with_rank, IsUnmarked, AreUnmarked, pin_at, pins_at, HasRank, IsSound, awaited, AreSettled, MarksFed}
 use Rattle.netlist.proofs.Placing.{IsByRank}

@@ -7,7 +7,7 @@ ghost use Rattle.sr_model.specs.Declaration.{declared, declarations_of, declarat
 ghost use Rattle.netlist.specs.Numbering.{names_of, sig_in, driven_name, pin_names, inputs_of, outputs_of, pins_of, drivers_of, HasPinCount};
 ghost use Rattle.netlist.specs.Checks.{HasFewSignals, HasFewPins, IsDrivenOnce, IsAccepted, IsRefusal};
 ghost use Rattle.netlist.specs.Driving.{node_at, HoldsDrivers, AreWithin, IsLack};
-ghost use Rattle.netlist.specs.Wiring.{driver_of, drivers_from, IsNodeWithin};
+ghost use Rattle.netlist.specs.Nodes.{driver_of, drivers_from, IsNodeWithin};
 
 use crate::checks::NetRefusal;
 use crate::names::{NameTable, to_bytes};

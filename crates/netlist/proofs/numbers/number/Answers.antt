@@ -7,7 +7,7 @@ use Rattle.sr_model.specs.Declaration.{Declaration, declared, declarations_of}
 use Rattle.netlist.specs.Checks.{without_lines, HasFewSignals, HasFewPins, IsDrivenOnce}
 use Rattle.netlist.specs.Driving.{HoldsDrivers, IsLack}
 use Rattle.netlist.specs.Numbering.{names_of, pin_names, pins_of, sig_in, sig_of}
-use Rattle.netlist.specs.Wiring.{drivers_from, IsNodeWithin}
+use Rattle.netlist.specs.Nodes.{drivers_from, IsNodeWithin}
 use Rattle.netlist.specs.declared.wiring.Node.{Node}
 use Rattle.netlist.proofs.Settling.{all_driven, all_long, all_drivers, all_within, pins_below, lack_refused}
 use Rattle.netlist.proofs.Statements.{without_lines-stated}
