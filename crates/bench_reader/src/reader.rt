@@ -15,27 +15,21 @@ use bstr::ByteSlice;
 use sr_model::{Bytes, Names, NoMemory, Numbered, Sequence, Statement, Statements};
 use sr_text::cut;
 use std::alloc::{AllocError, Global};
-use thiserror::Error;
 
 const MAX_NAME_BYTES: usize = 255;
 
 /// Why a netlist's text is refused: its first line that is not in the grammar. Lines count from 1.
-#[derive(Clone, Copy, Debug, PartialEq, Eq, Error)]
+#[derive(Clone, Copy, Debug, PartialEq, Eq)]
 pub enum BenchRefusal {
     /// It has none of the three forms.
-    #[error("line {line}: syntax")]
     Syntax { line: u64 },
     /// A signal's name has more than 255 bytes.
-    #[error("line {line}: name too long")]
     NameLong { line: u64 },
     /// Its word is that of no kind.
-    #[error("line {line}: unknown kind")]
     UnknownKind { line: u64 },
     /// Its kind may not have so many pins.
-    #[error("line {line}: wrong number of pins")]
     WrongPins { line: u64 },
     /// Memory was refused.
-    #[error("no memory")]
     NoMemory,
 }
 
