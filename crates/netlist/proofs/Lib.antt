@@ -7,6 +7,7 @@ pub mod FlipFlopList
 pub mod Levels
 pub mod LoopFound
 pub mod Marks
+pub mod MentionSigs
 pub mod NetlistOrRefused
 pub mod OddPins
 pub mod Once
