@@ -74,7 +74,7 @@ module _ (items : List Numbered) (i : ℕ) (x : Numbered) (names after : List (L
   firsts_more firsts new so_far pushed =
       let same : (d : Declaration) → Contains front d → sig_in after (first_mention d) ≡ sig_in names (first_mention d) =
       λ d h. ap (λ (zs : List (List ℕ)). sig_in zs (first_mention d)) added
-          ∙ ap (λ (k : ℕ). let s : Sig = record { 0 = k } in s) (place-kept names (mentions (stated_by x)) (first_mention d) stays (among (first_mention d) (firsts_mentioned front d h))) in
+      ∙ ap (λ (k : ℕ). let s : Sig = record { 0 = k } in s) (place-kept names (mentions (stated_by x)) (first_mention d) stays (among (first_mention d) (firsts_mentioned front d h))) in
       let kept : map (λ d. sig_in after (first_mention d)) front ≡ map (λ d. sig_in names (first_mention d)) front = map-agree (λ d. sig_in after (first_mention d)) (λ d. sig_in names (first_mention d)) front same in
       pushed ∙ ap (λ (xs : List Sig). xs ++ sig_in after (first_mention (stated_by x)) ∷ []) (so_far ∙ sym kept)
       ∙ sym (map-append (λ d. sig_in after (first_mention d)) front (stated_by x ∷ [])) ∙ ap (map (λ d. sig_in after (first_mention d))) (sym (stated_more items i x at))
@@ -97,7 +97,7 @@ first_at sig items i x firsts d at is =
     let within : i < length items = at.within in (
       omega arith,
       ap (λ (xs : List Sig). get_or xs i d) is ∙ get_or-map (λ e. sig (first_mention e)) (map stated_by items) i (stated_by x) d (omega arith)
-      ∙ ap (λ e. sig (first_mention e)) (get_or-map stated_by items i x (stated_by x) within ∙ ap stated_by (sym at.read)),
+          ∙ ap (λ e. sig (first_mention e)) (get_or-map stated_by items i x (stated_by x) within ∙ ap stated_by (sym at.read)),
     )
 
 -- it is the one that the statement names, as an input, an output or what it drives
