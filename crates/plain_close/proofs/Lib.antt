@@ -10,7 +10,6 @@ pub mod NewLits
 pub mod Noting
 pub mod Taking
 pub mod Forcing
-pub mod LitCounts
 pub mod NextLevels
 pub mod Turning
 pub mod WaitingRows

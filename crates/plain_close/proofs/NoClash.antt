@@ -24,9 +24,6 @@ no-common : (w : PinWord) (i : ℕ) → bit_and w.zero w.one ≡ 0 → is_set w.
 no-common w i none zero_set one_set =
     true≢false (sym (and_from (is_set w.zero i) (is_set w.one i) zero_set one_set) ∙ sym (is_set_and w.zero w.one i) ∙ ap (λ n. is_set n i) none ∙ is_set_zero i)
 
-pub no_clash-none : (planes : PlaneSet) → HaveNoClash planes []
-no_clash-none planes b i h = absurd (not_in_nil b h)
-
 module _ (u : Unrolling) (planes : PlaneSet) (places : List InChunk) where
   pub no_clash-more : (i : ℕ) (d : InChunk) (w : PinWord) → i < length places → w ≡ words_at planes (block_in u (get_or places i d)) → bit_and w.zero w.one ≡ 0
       → HaveNoClash planes (map (block_in u) (take i places)) → HaveNoClash planes (map (block_in u) (take (i + 1) places))

@@ -66,24 +66,7 @@ pushed-then u xs ys a b c first second = record {
 pub pushed-same : (u : Unrolling) (xs ys : List Task) (a b : Waiting) → xs ≡ ys → Pushed u xs a b → Pushed u ys a b
 pushed-same u xs ys a b e p = subst (λ zs. Pushed u zs a b) e p
 
--- the tasks of a signal itself that fresh bits are in: none of an input, and one of a gate
-pub own-none : (u : Unrolling) (d : Driver) (s : Sig) (chunk fresh : ℕ) → kind_of d ≡ None → own_woken u d s chunk fresh ≡ []
-own-none u Input s chunk fresh e = refl
-own-none u (Driven kind pins) s chunk fresh e = cc
-
-pub own-gate : (u : Unrolling) (d : Driver) (kind : Kind) (s : Sig) (chunk fresh : ℕ) → kind_of d ≡ Some kind → (kind ≡ Dff → ⊥) → own_woken u d s chunk fresh ≡ task_at u s chunk ∷ []
-own-gate u Input kind s chunk fresh e gate = cc
-own-gate u (Driven Dff pins) kind s chunk fresh e gate = absurd (gate (sym (some-kind Dff kind e)))
-own-gate u (Driven And pins) kind s chunk fresh e gate = refl
-own-gate u (Driven Nand pins) kind s chunk fresh e gate = refl
-own-gate u (Driven Or pins) kind s chunk fresh e gate = refl
-own-gate u (Driven Nor pins) kind s chunk fresh e gate = refl
-own-gate u (Driven Xor pins) kind s chunk fresh e gate = refl
-own-gate u (Driven Xnor pins) kind s chunk fresh e gate = refl
-own-gate u (Driven Not pins) kind s chunk fresh e gate = refl
-own-gate u (Driven Buf pins) kind s chunk fresh e gate = refl
-
--- and those of a flip-flop
+-- the tasks of a flip-flop itself that fresh bits are in
 pub own-flip_flop : (u : Unrolling) (d : Driver) (s : Sig) (chunk fresh : ℕ) → kind_of d ≡ Some Dff → own_woken u d s chunk fresh ≡ before_woken u s chunk fresh ++ chunk_woken u d s chunk fresh
 own-flip_flop u Input s chunk fresh e = cc
 own-flip_flop u (Driven kind pins) s chunk fresh e =
@@ -92,14 +75,6 @@ own-flip_flop u (Driven kind pins) s chunk fresh e =
 pub is-flip_flop : (d : Driver) → kind_of d ≡ Some Dff → is_flip_flop d ≡ true
 is-flip_flop Input e = cc
 is-flip_flop (Driven kind pins) e = ap (λ k. is_flip_flop (Driven k pins)) (some-kind kind Dff e)
-
--- the task of a driven signal in a chunk
-pub own-is : (u : Unrolling) (s : Sig) (chunk : ℕ) (kind : Kind) → s.0 < signals_in u → chunk < chunks_in u → kind_of (driver_at u.circuit.drivers s.0) ≡ Some kind → IsTaskAt u s chunk
-own-is u s chunk kind signal early e = record { signal = signal; early = early; driven = driven (driver_at u.circuit.drivers s.0) e }
-  where
-    driven : (d : Driver) → kind_of d ≡ Some kind → is_driven d ≡ true
-    driven Input e = cc
-    driven (Driven k pins) e = refl
 
 -- each reader's task in the chunk is one
 pub reader-is : (u : Unrolling) (s : Sig) (chunk : ℕ) (rs : List Sig) → rs ≡ other_readers u.circuit.drivers s → chunk < chunks_in u → (i : ℕ) (d : Sig) → i < length rs → IsTaskAt u (get_or rs i d) chunk

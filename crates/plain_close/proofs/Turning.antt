@@ -16,6 +16,7 @@ use Rattle.unroll.specs.Bits.{is_set, word_for}
 use Rattle.unroll.specs.Problem.{Unrolling, unrolled, IsProblem, chunks_in, sig_at, chunk_at, block_of, bit_of, cell_of}
 use Rattle.unroll.specs.Tasks.{IsTask, IsCellOf, task_of, task_at, target_of, chunk_of, blocks_of, blocks_from}
 use Rattle.unroll.proofs.BlockNumbers.{block-sig, block-chunk, cycle-chunk, task-itself}
+use Rattle.unroll.proofs.BlockCells.{cell-itself, bit-small, blocks-at}
 use Rattle.unroll.proofs.WordBits.{is_set_zero}
 use Rattle.unroll.proofs.TaskCells.{have_its_cells, each_in_one_task}
 use Rattle.gate_rules.specs.Forced.{ForcedIn, IsForcedExactly, bit_at_place, lit_at_place, view_has, words_of}
@@ -50,17 +51,6 @@ words-or-none (c ∷ blocks) f b =
         | inr e ↦ inr (cond-false (eqb c.0 b.0) (f c) (words_of blocks (map f blocks) b) (ne_eqb c.0 b.0 other) ∙ e)
       ]
     ]
-
--- a cell is that of its bit in its block
-pub cell-itself : (u : Unrolling) (c : Cell) → c.cycle < u.cycles → cell_of u (block_of u c) (bit_of c) ≡ c
-cell-itself u c early =
-    let chunk : chunk_at u (block_of u c) ≡ c.cycle / 64 = block-chunk u c.sig (c.cycle / 64) (cycle-chunk u c.cycle early) in
-    let sig : sig_at u (block_of u c) ≡ c.sig = block-sig u c.sig (c.cycle / 64) (cycle-chunk u c.cycle early) in
-    ap (λ n. record { cycle = 64 * n + c.cycle % 64; sig = sig_at u (block_of u c) }) chunk ∙ ap (λ n. record { cycle = n; sig = sig_at u (block_of u c) }) (whole c.cycle)
-    ∙ ap (λ s. record { cycle = c.cycle; sig = s }) sig
-  where
-    whole : (n : ℕ) → 64 * (n / 64) + n % 64 ≡ n
-    whole n = omega arith
 
 -- a literal of planes is a bit of its block
 pub has-bit_of : (u : Unrolling) (planes : PlaneSet) (l : Lit) → has u planes l ≡ true → (l.cell.cycle < u.cycles) × (has_bit planes (block_of u l.cell) l.bit (bit_of l.cell) ≡ true)
@@ -111,12 +101,6 @@ module _ (u : Unrolling) (is : IsProblem u) (t : Task) (seen old new : PlaneSet)
   at-place l place early e =
       ap (λ b. lit (cell_of u b (bit_of l.cell)) l.bit) e ∙ ap (λ c. lit c l.bit) (cell-itself u l.cell early)
 
-  lane : (l : Lit) → bit_of l.cell < 64
-  lane l = below l.cell.cycle
-    where
-      below : (n : ℕ) → n % 64 < 64
-      below n = omega arith
-
   pub adds-forced : AddsForced u t seen old new
   adds-forced = record {
     done = λ l f.
@@ -126,7 +110,7 @@ module _ (u : Unrolling) (is : IsProblem u) (t : Task) (seen old new : PlaneSet)
         let there : Contains blocks (block_of u l.cell) = listed l.cell of in
         let at : get_or blocks there.0 (record { 0 = 0 }) ≡ block_of u l.cell = get_or_default blocks there.0 (record { 0 = 0 }) (block_of u l.cell) there.1 ∙ there.2 in
         let set : bit_at_place out there.0 l.bit (bit_of l.cell) ≡ true =
-        (exact there.0 (bit_of l.cell) l.bit there.1 (lane l)).1 (subst (ForcedIn u t (view_has u blocks view)) (sym (at-place l there.0 early at)) seen) in
+        (exact there.0 (bit_of l.cell) l.bit there.1 (bit-small l.cell)).1 (subst (ForcedIn u t (view_has u blocks view)) (sym (at-place l there.0 early at)) seen) in
         bit-has u new l early (joins.joined (block_of u l.cell) l.bit (bit_of l.cell) (record { place = there.0; first = there.1; block = at; set = set }));
     only = λ l h.
         let parts : (l.cell.cycle < u.cycles) × (has_bit new (block_of u l.cell) l.bit (bit_of l.cell) ≡ true) = has-bit_of u new l h in
@@ -134,7 +118,7 @@ module _ (u : Unrolling) (is : IsProblem u) (t : Task) (seen old new : PlaneSet)
           | inl before ↦ inl (bit-has u old l parts.0 before)
           | inr among ↦ inr (forced-on_cells u t (view_has u blocks view) (has u seen) (λ c bit of. from-view (lit c bit)) l
               (subst (ForcedIn u t (view_has u blocks view)) (at-place l among.place parts.0 among.block)
-              ((exact among.place (bit_of l.cell) l.bit among.first (lane l)).0 among.set)))
+              ((exact among.place (bit_of l.cell) l.bit among.first (bit-small l.cell)).0 among.set)))
         ];
   }
 
@@ -217,15 +201,10 @@ all-done u planes q settled none l (p, f) =
 pub closure-is : (u : Unrolling) (x y : PlaneSet) (q : Waiting) → Between u x y q → IsClosed (unrolled u) (lits u y) → SameLits (lits u y) (Closure (unrolled u) (lits u x))
 closure-is u x y q between closed = closed_between (unrolled u) (lits u x) (lits u y) between.kept between.in_closure closed
 
--- the blocks of a task by its signal and chunk
-pub blocks-at : (u : Unrolling) (s : Sig) (chunk : ℕ) → chunk < chunks_in u → blocks_from u s chunk ≡ blocks_of u (task_at u s chunk)
-blocks-at u s chunk early =
-    sym (ap (λ x. blocks_from u x (chunk_of u (task_at u s chunk))) (block-sig u s chunk early) ∙ ap (blocks_from u s) (block-chunk u s chunk early))
-
 -- what was forced is added, where its words are joined into the blocks
 pub forced-added : (u : Unrolling) (s : Sig) (chunk : ℕ) → chunk < chunks_in u → (seen old new : PlaneSet) (places : List InChunk) (view out : List PinWord)
     → AreForced u seen s chunk places view out → JoinsFirst (map (block_in u) places) out (length places) old new → AddsForced u (task_at u s chunk) seen old new
 forced-added u s chunk early seen old new places view out are joins =
     let size : length places ≡ length (blocks_from u s chunk) = sym (length-map places (block_in u)) ∙ ap length are.places_are in
-    adds-forced u are.problem (task_at u s chunk) seen old new (blocks_from u s chunk) view out (blocks-at u s chunk early) are.view_is are.exact
+    adds-forced u are.problem (task_at u s chunk) seen old new (blocks_from u s chunk) view out (sym (blocks-at u s chunk early)) are.view_is are.exact
     (subst (λ n. JoinsFirst (blocks_from u s chunk) out n old new) size (subst (λ bs. JoinsFirst bs out (length places) old new) are.places_are joins))

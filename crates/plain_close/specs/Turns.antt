@@ -12,9 +12,9 @@ use Rattle.unroll.specs.declared.problem.Block.{Block}
 use Rattle.unroll.specs.declared.problem.Task.{Task}
 use Rattle.unroll.specs.declared.words.PinWord.{PinWord}
 use Rattle.unroll.specs.Bits.{is_set, word_for}
-use Rattle.unroll.specs.Problem.{Unrolling, IsProblem, unrolled, signals_in, chunks_in, block_at}
-use Rattle.unroll.specs.Tasks.{IsTask, IsCellOf, task_at, target_of, chunk_of, blocks_from}
-use Rattle.gate_rules.specs.Forced.{ForcedIn, HasNoLaterBit, IsForcedExactly, bit_at_place}
+use Rattle.unroll.specs.Problem.{Unrolling, IsProblem, HaveNoLaterBit, unrolled, signals_in, chunks_in, block_at}
+use Rattle.unroll.specs.Tasks.{IsTask, IsCellOf, drives_itself, task_at, target_of, chunk_of, blocks_from}
+use Rattle.gate_rules.specs.Forced.{ForcedIn, IsForcedExactly, bit_at_place}
 use Rattle.known_planes.specs.Planes.{PlaneSet, has, lits, words_at, IsOf}
 use Rattle.plain_close.specs.declared.task_queues.InChunk.{InChunk}
 use Rattle.plain_close.specs.Queues.{Waiting, Waits, IsFirst}
@@ -65,10 +65,6 @@ own_woken u (Driven _ pins) s chunk fresh = task_at u s chunk ∷ []
 -- all tasks that they are in
 abbrev pub woken_from : Unrolling → Sig → ℕ → ℕ → List Task
 woken_from u s chunk fresh = own_woken u (driver_at u.circuit.drivers s.0) s chunk fresh ++ map (λ r. task_at u r chunk) (other_readers u.circuit.drivers s)
-
--- a flip-flop that is its own pin
-abbrev pub drives_itself : Unrolling → Sig → Bool
-drives_itself u s = is_flip_flop (driver_at u.circuit.drivers s.0) && reads (driver_at u.circuit.drivers s.0) s
 
 -- whether the planes have a bit of a block
 abbrev pub has_bit : PlaneSet → Block → Bool → ℕ → Bool
@@ -137,7 +133,7 @@ pub record AreForced (u : Unrolling) (planes : PlaneSet) (target : Sig) (chunk :
   pub view_is : view ≡ map (words_at planes) (blocks_from u target chunk)
   pub out_size : length out ≡ length places
   pub exact : IsForcedExactly u (task_at u target chunk) (blocks_from u target chunk) view out
-  pub later : HasNoLaterBit u (map (block_in u) places) out
+  pub later : HaveNoLaterBit u (map (block_in u) places) out
 
 -- what a task forces from the seen literals is added, and nothing else
 pub record AddsForced (u : Unrolling) (t : Task) (seen old new : PlaneSet) : Type 0 where

@@ -6,7 +6,8 @@ use Rattle.sr_model.specs.declared.cells.Cell.{Cell}
 use Rattle.sr_model.specs.declared.cells.Lit.{Lit}
 use Rattle.sr_model.specs.Declaration.{Declaration}
 use Rattle.sr_model.specs.Dump.{dump_has}
-use Rattle.sr_model.specs.Closure.{CellLe, HasBoth, SameLits, level, lit, passing}
+use Rattle.sr_model.specs.Order.{CellLe}
+use Rattle.sr_model.specs.Closure.{HasBoth, SameLits, level, lit, passing}
 use Rattle.sr_model.proofs.ClosureLaws.{level_in_Closure}
 use Rattle.sr_outside.specs.Told.{Held}
 use Rattle.bench_reader.specs.Grammar as grammar
@@ -146,14 +147,14 @@ same_cell a b (inr (same, low)) (inr (_, high)) =
 
 one_clash : (c : Circuit) (d : Recording) (a b : Cell) → IsClashOf c d a → IsClashOf c d b → a ≡ b
 one_clash c d a b (i, first) (j, second) =
-    let same : i ≡ j = omega (arith, first.first_level j b second.both, second.first_level i a first.both) in
-    same_cell a b (first.least_cell b (subst (λ n. HasBoth (level (unrolled_over c d.cycles) (passing (dump_has d.rows)) n) b) (sym same) second.both))
-    (second.least_cell a (subst (λ n. HasBoth (level (unrolled_over c d.cycles) (passing (dump_has d.rows)) n) a) same first.both))
+    let same : i ≡ j = omega (arith, first.first_level j b second.least_cell.both, second.first_level i a first.least_cell.both) in
+    same_cell a b (first.least_cell.least b (subst (λ n. HasBoth (level (unrolled_over c d.cycles) (passing (dump_has d.rows)) n) b) (sym same) second.least_cell.both))
+    (second.least_cell.least a (subst (λ n. HasBoth (level (unrolled_over c d.cycles) (passing (dump_has d.rows)) n) a) same first.least_cell.both))
 
 -- both literals of its cell are known
 pub clash_known : (c : Circuit) (d : Recording) (cell : Cell) → IsClashOf c d cell → HasBoth (KnownFrom c d) cell
 clash_known c d cell (i, first) =
-    let within = level_in_Closure (unrolled_over c d.cycles) (passing (dump_has d.rows)) i in (within (lit cell false) first.both.0, within (lit cell true) first.both.1)
+    let within = level_in_Closure (unrolled_over c d.cycles) (passing (dump_has d.rows)) i in (within (lit cell false) first.least_cell.both.0, within (lit cell true) first.least_cell.both.1)
 
 -- so there is no table
 no_table : (c : Circuit) (a b : Recording) (cell : Cell) (test : Lit → Bool) → a ≡ b → IsClashOf c a cell → SameLits (passing test) (KnownFrom c b) → ((x : Cell) → HasBoth (passing test) x → ⊥) → ⊥
