@@ -2,7 +2,7 @@ use Rattle.std.proofs.Common.{sym, subst, arith}
 use Rattle.netlist.specs.Checks.{HasFewSignals, HasFewPins}
 use Rattle.netlist.specs.Numbering.{HasPinCount}
 use Rattle.netlist.proofs.Statements.{stands_at, breaks_here, stated_by, stated_holds, pins_few, pins_front, without_lines-stated}
-use Rattle.netlist.proofs.numbers.count_pins.Goals as goal
+use Rattle.netlist.proofs.numbers.check_pins.Goals as goal
 
 pub overflow_add-count : goal.overflow_add-count
 overflow_add-count c =
