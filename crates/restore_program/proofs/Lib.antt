@@ -1,3 +1,4 @@
+pub mod AnswerExists
 pub mod Answering
 pub mod AskedLoad
 pub mod AskedRestore
@@ -15,6 +16,7 @@ pub mod GivenValues
 pub mod Inputless
 pub mod LoadCounts
 pub mod Loads
+pub mod NamesDecided
 pub mod OneAnswer
 pub mod OneLoad
 pub mod OneMeaning

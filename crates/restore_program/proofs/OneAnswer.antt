@@ -4,7 +4,6 @@ use Rattle.std.specs.Prelude.{codes}
 use Rattle.std.proofs.lemmas.Option.{same_Some}
 use Rattle.sr_model.specs.declared.cells.Cell.{Cell}
 use Rattle.sr_model.specs.declared.cells.Lit.{Lit}
-use Rattle.sr_model.specs.Declaration.{Declaration}
 use Rattle.sr_model.specs.Dump.{dump_has}
 use Rattle.sr_model.specs.Order.{CellLe}
 use Rattle.sr_model.specs.Closure.{HasBoth, SameLits, level, lit, passing}
@@ -14,13 +13,10 @@ use Rattle.bench_reader.specs.Grammar as grammar
 use Rattle.bench_reader.proofs.BenchLaws as texts
 use Rattle.netlist.specs.Circuit.{Circuit, IsCircuit, circuit_of, unrolled_over}
 use Rattle.std.specs.Fmt.{decimal}
-use Rattle.std.specs.List.{All}
-use Rattle.std.proofs.lemmas.List.Elements.{All-map}
-use Rattle.netlist.specs.Numbering.{IsStatement}
 use Rattle.netlist.specs.Laws.{SameRefusal}
 use Rattle.netlist.proofs.Circuits.{statements_give_circuits}
 use Rattle.netlist.proofs.OneRefusal.{refusal_is_unique, netlists_are_not_refused}
-use Rattle.bench_reader.proofs.Statements.{read_are}
+use Rattle.bench_reader.proofs.Statements.{spells_statements}
 use Rattle.netlist.specs.Checks as checks
 use Rattle.netlist.specs.declared.checks.NetRefusal.{NetRefusal}
 use Rattle.netlist.specs.declared.checks.NetRefusal.TheVariants as net
@@ -65,9 +61,7 @@ same_netlist held name c d (bytes, there, text) (other, again, other_text) =
 
 pub is_circuit : (bytes : List ℕ) (c : Circuit) → IsNetlistText bytes c → IsCircuit c
 is_circuit bytes c a =
-    let are : All IsStatement (checks.without_lines a.stated) =
-    All-map IsStatement (λ (x : ℕ × Declaration). x.1) a.stated (read_are 1 (grammar.text_lines bytes) a.stated a.spells) in
-    subst IsCircuit (sym a.circuit) (statements_give_circuits (checks.without_lines a.stated) are a.netlist)
+    subst IsCircuit (sym a.circuit) (statements_give_circuits (checks.without_lines a.stated) (spells_statements bytes a.stated a.spells) a.netlist)
 
 -- a text of a netlist is not refused
 refused_or_read : (bytes : List ℕ) (c : Circuit) (text : List ℕ) (status : Status) → RefusedNetlist bytes text status → IsNetlistText bytes c → ⊥
