@@ -238,7 +238,7 @@ none without q
 none without r[0].$
 2 of 3 rows are suspects' suspects worked.bench clash.dump
 case_of 'no contradiction' 0 'no contradiction' bash -c 'head -n 3 clash.dump >well.dump; suspects worked.bench well.dump'
-case_of 'no row alone' 1 'contradiction n 0
+case_of 'no row alone' 1 'contradiction m 0
 0 of 4 rows are suspects: more than one row is wrong, or the netlist, or the cycles' bash -c '
     (cat worked.bench; printf "INPUT(c)\nm = NOT(c)\nv = DFF(m)\nw = DFF(m)\n") >twice.bench
     (head -n 4 clash.dump; printf "v x1\nw x0\n") >twice.dump
