@@ -72,9 +72,9 @@ class Wave:
     def __init__(self, path):
         self.path = path
         self.head = []  # the lines before $enddefinitions
-        self.bits = {}  # the full name of a bit, as uart_tb.dut.rx.shift[3]: its id and its place from the left
-        self.vectors = {}  # the full name of a vector: the full names of its bits, from the left
         self.width = {}  # by id
+        self.variables = {}  # by full name, as uart_tb.dut.rx.shift: the id, and the numbers of the leftmost and rightmost bit
+        self.parts = {}  # of a vector whose bits are variables of their own, by its full name: the full names of the bits
         self._lines = lines_of(path)
         self._number = 0
         self._rest = self._read_head()
@@ -126,16 +126,30 @@ class Wave:
         if abs(left - right) + 1 != width:
             self.refuse(f"{name} has {width} bits and the range {span}")
         self.width[id] = width
-        if width == 1:
-            # A register of one bit may be called with its number or without.
-            self.bits[name] = (id, 0)
-            if span:
-                self.bits[f"{name}[{left}]"] = (id, 0)
-            return
-        step = 1 if left <= right else -1
-        self.vectors[name] = [f"{name}[{it}]" for it in range(left, right + step, step)]
-        for place, bit in enumerate(self.vectors[name]):
-            self.bits[bit] = (id, place)
+        if width == 1 and span:
+            # One bit of a vector, or a register of one bit, which is called with its number or without.
+            self.parts.setdefault(name, []).append(f"{name}[{left}]")
+            name = f"{name}[{left}]"
+        self.variables[name] = (id, left, right)
+
+    def find(self, name):
+        """Returns the bits that a full name stands for, from the left, each its own name, and its id and place: none where there is no such."""
+        if name in self.variables:
+            id, left, right = self.variables[name]
+            if self.width[id] == 1:
+                return [(name, (id, 0))]
+            step = 1 if left <= right else -1
+            return [(f"{name}[{it}]", (id, abs(it - left))) for it in range(left, right + step, step)]
+        parts = self.parts.get(name, [])
+        if parts:
+            bits = [(it, (self.variables[it][0], 0)) for it in parts]
+            return bits if len(bits) > 1 else [(name, bits[0][1])]
+        vector, _, number = name.rpartition("[")
+        if vector in self.variables and re.fullmatch(r"-?[0-9]{1,9}\]", number):
+            id, left, right = self.variables[vector]
+            if self.width[id] > 1 and min(left, right) <= int(number[:-1]) <= max(left, right):
+                return [(name, (id, abs(int(number[:-1]) - left)))]
+        return []
 
     def moments(self):
         """Yields each time at which something changes, with the changes, each an id and the letters of its new value."""
@@ -184,11 +198,12 @@ class Edges:
     """Says of each moment whether the clock rises there (or falls): it is 1 (or 0) now, and was not before."""
 
     def __init__(self, wave, clock, edge):
-        if clock not in wave.bits:
+        bits = wave.find(clock)
+        if len(bits) != 1:
             raise Refused(f"{wave.path} has no signal {clock} of one bit")
         if edge not in ("rise", "fall"):
             raise Refused(f"edge={edge}: rise or fall is wanted")
-        self.id, self.place = wave.bits[clock]
+        self.id, self.place = bits[0][1]
         self.to, self.now = "1" if edge == "rise" else "0", None
 
     def is_at(self, changes):

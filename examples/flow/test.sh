@@ -103,6 +103,16 @@ case_of 'a whole number has 32 bits' 0 'srdump 1
 cycles 3
 whole[2] 111
 whole[31] 000' vcd_to_dump chip.vcd scope=tb.dut clock=clk 'whole[2]' 'whole[31]'
+sed 's/^\$var reg 4 \$ high\[7:4\] \$end/$var reg 1 $ high [7] $end $var reg 1 $6 high [6] $end/; s/^bz \$/z$/; s/^b1100 \$/1$ 0$6/' chip.vcd >parts.vcd
+case_of 'a vector whose bits are variables' 0 'srdump 1
+cycles 3
+high[7] xx1
+high[6] xx0' vcd_to_dump parts.vcd scope=tb.dut clock=clk high
+case_of 'one of them' 0 'srdump 1
+cycles 3
+high[6] xx0
+one 011' vcd_to_dump parts.vcd scope=tb.dut clock=clk 'high[6]' one
+case_of 'a bit that a vector has not' 2 'vcd_to_dump: chip.vcd has no signal tb.dut.count[8]' vcd_to_dump chip.vcd scope=tb.dut clock=clk 'count[8]'
 case_of 'from, cycles, and one bit' 0 'srdump 1
 cycles 1
 count[2] 1' vcd_to_dump chip.vcd scope=tb.dut clock=clk from=1 cycles=1 'count[2]'
