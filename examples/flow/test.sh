@@ -1,15 +1,18 @@
 #!/usr/bin/env bash
 # Tests the scripts of this folder by small cases, by files of 16 MiB, and by the commands of the pages. usage: test.sh
-# It needs no other tool than Python 3 and the program (bin/srestore, or that which SRESTORE names). The last line counts.
+# It needs no other tool than Python 3 and the program, which it has built, or that which SRESTORE names. The last line counts.
 set -u
 here=$(cd "$(dirname "$(readlink -f "$0")")" && pwd)
-export SRESTORE=${SRESTORE:-$here/../../bin/srestore}
+if [ -z "${SRESTORE-}" ]; then
+    "$here/../../bin/build" || exit
+    SRESTORE=$here/../../crates/srestore/out/srestore
+fi
+SRESTORE=$(readlink -f "$SRESTORE")
+export SRESTORE
 PATH=$here:$PATH
 dir=$(mktemp -d) || exit 2
 trap 'rm -rf "$dir"' EXIT
 cd "$dir" || exit 2
-# The first call may build the program.
-"$SRESTORE" print /dev/null || exit 2
 passed=0 failed=0
 
 # Compares what a case wrote, and its status, with what it should: case NAME STATUS TEXT COMMAND..
