@@ -14,7 +14,8 @@ BEGIN {
     for (s = first_gate; s < signals; s++)
         print "n" s " = " kinds[draw(3) + 1] "(n" draw(s) ", n" draw(s) ")" > "large.bench"
     for (s = inputs; s < first_gate; s++) print "n" s " = DFF(n" draw(signals) ")" > "large.bench"
-    zeros = sprintf("%" cycles "s", ""); gsub(" ", "0", zeros)
+    zeros = "0"; while (length(zeros) < cycles) zeros = zeros zeros
+    zeros = substr(zeros, 1, cycles)
     print "srdump 1\ncycles " cycles > "large.dump"
     for (s = inputs; s < first_gate; s += 8) print "n" s " " zeros > "large.dump"
 }'
