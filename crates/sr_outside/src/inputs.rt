@@ -4,11 +4,9 @@ ghost use Rattle.std.specs.Io.KnownBytes.{Consumes, IsAtEnd};
 ghost use Rattle.sr_outside.specs.Counts.{count_after, IsCounted};
 ghost use Rattle.sr_outside.specs.Told.{Held, held_name, MayFail, IsLastShaky};
 
-use thiserror::Error;
 
 /// A call on the outside failed.
-#[derive(Clone, Copy, Debug, PartialEq, Eq, Error)]
-#[error("failed")]
+#[derive(Clone, Copy, Debug, PartialEq, Eq)]
 pub struct Failed;
 
 /// Inputs that are read by name, one at a time. No call changes what is held or what is shaky.

@@ -17,8 +17,8 @@ fn expect_text(
     match (read, want) {
         (Ok(text), Ok(bytes)) => assert_eq!(rt; text.as_slice(), bytes),
         (Err(refusal), Err(expected)) => assert_eq!(rt; refusal, expected),
-        (Ok(_), Err(expected)) => assert!(rt; false, "read, where {expected} was expected"),
-        (Err(refusal), Ok(_)) => assert!(rt; false, "{refusal}"),
+        (Ok(_), Err(expected)) => assert!(rt; false, "read, where {expected:?} was expected"),
+        (Err(refusal), Ok(_)) => assert!(rt; false, "{refusal:?}"),
     }
 }
 
