@@ -96,14 +96,17 @@ trace_decided c is cycles seed list = elim (names_decided c is (names_in list)) 
 ]
 
 load_text : (number signals : ℕ) → IsLoadSize signals → (text : List ℕ) × IsLoadText number signals text
-load_text number signals size = (load_line number signals (length (flip_flops c.drivers)) counts, record {
-  size = size;
-  rows = rows;
-  trace = (run.0, run.1, refl);
-  counts = counts;
-  counted = record { known = known.0; is_known = known.1; known_is = refl; traced_is = refl };
-  text_is = refl;
-}) where
+load_text number signals size = (
+  load_line number signals (length (flip_flops c.drivers)) counts,
+  record {
+    size = size;
+    rows = rows;
+    trace = (run.0, run.1, refl);
+    counts = counts;
+    counted = record { known = known.0; is_known = known.1; known_is = refl; traced_is = refl };
+    text_is = refl;
+  },
+) where
   c : Circuit
   c = load_circuit number signals
 

@@ -173,14 +173,7 @@ fn write_known<K: Sink>(table: &Table, buf: &mut RowBuf, out: &mut K) -> Result<
     ensures { Writes K.written K.room K.faults out.old out.new result (table_text table.now.netlist table.now.cycles (has (unrolling_of table.now) table.now.planes) table.now.traced table.now.all) }
 {
     let problem = Problem::new(&table.netlist, table.cycles);
-    write_table(
-        &problem,
-        &table.planes,
-        table.traced,
-        table.all,
-        buf,
-        out,
-    )
+    write_table(&problem, &table.planes, table.traced, table.all, buf, out)
 }
 
 /// Writes the line of a load netlist.
