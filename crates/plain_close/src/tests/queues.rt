@@ -21,3 +21,18 @@ fn waits_once(rt: HostRuntime) -> Result<(), Fail> {
     assert_eq!(rt; queues.first(), None);
     Ok(())
 }
+
+/// While a task of chunk 1 waits, where the last one was found, none of chunk 0 comes before it.
+#[test]
+fn stays_in_a_chunk(rt: HostRuntime) -> Result<(), Fail> {
+    let mut queues = TaskQueues::new(rt.alloc(), 2, 2)?;
+    queues.push(Sig(0), 1)?;
+    let late = InChunk {
+        sig: Sig(0),
+        chunk: 1,
+    };
+    assert_eq!(rt; queues.first(), Some(late));
+    queues.push(Sig(1), 0)?;
+    assert_eq!(rt; queues.first(), Some(late));
+    Ok(())
+}
