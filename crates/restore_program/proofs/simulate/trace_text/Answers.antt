@@ -28,5 +28,5 @@ returns c =
       run.0,
       run.1,
       same ∙ ap (λ n. printed c.args.n.now.names (record { cycles = n; rows = c.in_ok-dump.dump.rows })) (c.in_ok-dump.ensures.cycles ∙ c.in_ok-inputs.ensures.cycles)
-      ∙ ap (λ rs. printed c.args.n.now.names (record { cycles = c.args.cycles; rows = rs })) run.2,
+          ∙ ap (λ rs. printed c.args.n.now.names (record { cycles = c.args.cycles; rows = rs })) run.2,
     )) c.print_dump.ensures
