@@ -4,7 +4,6 @@ ghost use Rattle.std.specs.Io.KnownBytes.{Consumes, IsAtEnd};
 ghost use Rattle.sr_outside.specs.Counts.{count_after, IsCounted};
 ghost use Rattle.sr_outside.specs.Told.{Held, held_name, MayFail, IsLastShaky};
 
-
 /// A call on the outside failed.
 #[derive(Clone, Copy, Debug, PartialEq, Eq)]
 pub struct Failed;
