@@ -39,6 +39,7 @@ use Rattle.restore_program.specs.Loading.{IsLoadText, load_circuit, load_cycles,
 use Rattle.restore_program.specs.Requests.{Request, Asks, restoration, simulation, printing, loading}
 use Rattle.restore_program.specs.Tracing.{IsDrawnRun, OnTrace, names_in, unknown_name, name_twice, many_cells, traced}
 use Rattle.restore_program.proofs.AskedLoad.{load_size}
+use Rattle.restore_program.proofs.Files.{behind_netlist, first_file}
 use Rattle.restore_program.proofs.NamesDecided.{names_decided}
 use Rattle.restore_program.proofs.OneAnswer.{is_circuit}
 use Rattle.restore_program.proofs.OneLoad.{load_is_circuit}
@@ -135,13 +136,13 @@ on_netlist held netlist P some each =
     ]
 
 on_request : (held : Held) (words : List (List ℕ)) (request : Request) → Asks words request → IsServed held request → Some_text (RequestAnswer held request)
-on_request held words (restoration netlist dump all) asks (some, dump_some) = on_netlist held netlist _ some (λ c is circuit.
-    let (bytes, there) = held_bytes (held dump) (dump_some (c, is)) in
+on_request held words (restoration netlist dump all) asks there = on_netlist held netlist _ (there (parts.Netlist, netlist) (first_file (Some held) _ _)) (λ c is circuit.
+    let (bytes, there) = held_bytes (held dump) (there (parts.Dump, dump) (behind_netlist (Some held) netlist c _ _ is)) in
     let (text, status, on) = dump_decided c bytes all in
     (text, status, (bytes, there, on)))
-on_request held words (simulation netlist cycles seed list) asks some = on_netlist held netlist _ some (λ c is circuit. trace_decided c circuit cycles seed list)
-on_request held words (printing netlist) asks some = on_netlist held netlist _ some (λ c is circuit. (bench_text c, statuses.Done, (refl, refl)))
-on_request held words (loading number signals) asks some =
+on_request held words (simulation netlist cycles seed list) asks there = on_netlist held netlist _ (there (parts.Netlist, netlist) (first_file (Some held) _ _)) (λ c is circuit. trace_decided c circuit cycles seed list)
+on_request held words (printing netlist) asks there = on_netlist held netlist _ (there (parts.Netlist, netlist) (first_file (Some held) _ _)) (λ c is circuit. (bench_text c, statuses.Done, (refl, refl)))
+on_request held words (loading number signals) asks there =
     let (text, is) = load_text number signals (load_size words number signals asks) in
     (text, statuses.Done, (is, refl))
 

@@ -44,7 +44,6 @@ use Rattle.restore_program.specs.declared.status.Status.{Status}
 use Rattle.restore_program.specs.declared.status.Status.TheVariants as statuses
 use Rattle.restore_program.specs.declared.words.Settings.{Settings}
 use Rattle.restore_program.specs.Outcome.{IsFirstClash, IsKnown, IsTraced}
-use Rattle.restore_program.specs.Printing.{IsPrinted}
 use Rattle.restore_program.specs.Reply.{IsReady, text_of, status_of, refusal_status}
 use Rattle.restore_program.specs.Requests.{Request, Asks}
 use Rattle.restore_program.specs.TraceRefusals.{HasListAt, IsItem, IsTraceRefusal, list_refusal}
@@ -54,9 +53,9 @@ use Rattle.restore_program.specs.declared.trace.TraceRefusal.TheVariants as trac
 use Rattle.restore_program.specs.WordMeaning.{Means}
 use Rattle.restore_program.specs.Words.{IsBadNumber, IsCommand}
 use Rattle.restore_program.proofs.Gifts.{bad_has_key}
-use Rattle.restore_program.specs.Answer.{most_bytes, IsNetlistText, RefusedNetlist, netlist_too_long, bad_line, no_netlist, IsDumpText, IsDumpRefusal, OnDump, dump_too_long, bad_dump, clash, table, IsNetlistOf, OnNetlist, OnPrint, OnRefused, DumpAnswer, RequestAnswer, Answer, usage, bad_number, asked}
-use Rattle.restore_program.specs.Faults.{AreRefused, NeedsNoInput, TellsEnough, IsAcceptedNetlist, IsNetlistFault, IsDumpFault, IsRestoreFault, IsWordsFault}
-use Rattle.restore_program.specs.ReplyAnswers.{Replies, IsFault, IsFaultRefusal, IsOfWords, unread_refusal, ReplyAnswer, OnFault, OnFaultRefusal}
+use Rattle.restore_program.specs.Answer.{most_bytes, IsNetlistText, RefusedNetlist, netlist_too_long, bad_line, no_netlist, IsDumpText, IsDumpRefusal, OnDump, dump_too_long, bad_dump, clash, table, IsNetlistOf, OnNetlist, OnRefused, DumpAnswer, RequestAnswer, Answer, usage, bad_number, asked}
+use Rattle.restore_program.specs.Faults.{AreRefused, NeedsNoInput, TellsEnough, IsWordsFault}
+use Rattle.restore_program.specs.ReplyAnswers.{Replies, IsOfWords, ReplyAnswer, fault_of, refusal_fault, unread_refusal}
 use Rattle.restore_program.specs.Says.{Says}
 use Rattle.restore_program.specs.Status.{IsPlain}
 
@@ -153,10 +152,10 @@ trace_ready words place c list (traces.Unknown item) there (name, is, unknown) =
 trace_ready words place c list (traces.Twice item) there (name, is, twice) = item_there words place list c name item there is
 trace_ready words place c list traces.NoMemory there is = tt
 
-pub trace_no_fault : (r : TraceRefusal) (place : ℕ) → ¬ IsFault (replies.Refused (list_refusal r place))
-trace_no_fault (traces.Unknown item) place fault = fault
-trace_no_fault (traces.Twice item) place fault = fault
-trace_no_fault traces.NoMemory place fault = fault
+pub trace_no_fault : (r : TraceRefusal) (place : ℕ) → refusal_fault (list_refusal r place) ≡ None
+trace_no_fault (traces.Unknown item) place = refl
+trace_no_fault (traces.Twice item) place = refl
+trace_no_fault traces.NoMemory place = refl
 
 -- ---- from the bytes that are held
 
@@ -231,40 +230,6 @@ pub told_or_not : (told : Option Held) (P : Held → Type 0) → ((held : Held) 
 told_or_not None P each = tt
 told_or_not (Some held) P each = each held
 
--- a netlist's text
-pub printed_now : (words : List (List ℕ)) (c : Circuit) (reply : Reply) → IsPrinted c reply → Replies words (OnPrint c) reply
-printed_now words c (replies.Text text) printed = λ _. (printed, refl)
-printed_now words c (replies.Refused refusals.NoMemory) printed = λ plain. absurd plain
-printed_now words c (replies.Known t) printed = absurd printed
-printed_now words c (replies.Clash n cell) printed = absurd printed
-printed_now words c (replies.Load loaded) printed = absurd printed
-printed_now words c (replies.Refused (refusals.Bench r)) printed = absurd printed
-printed_now words c (replies.Refused (refusals.Net r)) printed = absurd printed
-printed_now words c (replies.Refused (refusals.Dumped r)) printed = absurd printed
-printed_now words c (replies.Refused (refusals.Words r)) printed = absurd printed
-printed_now words c (replies.Refused (refusals.TooLong part)) printed = absurd printed
-printed_now words c (replies.Refused (refusals.Fault part)) printed = absurd printed
-printed_now words c (replies.Refused (refusals.CellsByWords product)) printed = absurd printed
-printed_now words c (replies.Refused (refusals.TraceUnknown place item)) printed = absurd printed
-printed_now words c (replies.Refused (refusals.TraceTwice place item)) printed = absurd printed
-
--- such a reply is no fault, not about the words, and ready
-pub printed_plain : (c : Circuit) (reply : Reply) → IsPrinted c reply → (IsFault reply → ⊥) × (IsOfWords reply → ⊥) × ((words : List (List ℕ)) → IsReady words reply)
-printed_plain c (replies.Text text) h = (λ f. f, λ w. w, λ words. tt)
-printed_plain c (replies.Refused refusals.NoMemory) h = (λ f. f, λ w. w, λ words. tt)
-printed_plain c (replies.Known t) h = absurd h
-printed_plain c (replies.Clash n cell) h = absurd h
-printed_plain c (replies.Load loaded) h = absurd h
-printed_plain c (replies.Refused (refusals.Bench r)) h = absurd h
-printed_plain c (replies.Refused (refusals.Net r)) h = absurd h
-printed_plain c (replies.Refused (refusals.Dumped r)) h = absurd h
-printed_plain c (replies.Refused (refusals.Words r)) h = absurd h
-printed_plain c (replies.Refused (refusals.TooLong part)) h = absurd h
-printed_plain c (replies.Refused (refusals.Fault part)) h = absurd h
-printed_plain c (replies.Refused (refusals.CellsByWords product)) h = absurd h
-printed_plain c (replies.Refused (refusals.TraceUnknown place item)) h = absurd h
-printed_plain c (replies.Refused (refusals.TraceTwice place item)) h = absurd h
-
 -- ---- what the words ask for is answered
 
 pub answers_asked : (told : Option Held) (words : List (List ℕ)) (request : Request) (reply : Reply) → Asks words request → IfSome told (λ held. Replies words (RequestAnswer held request) reply)
@@ -291,70 +256,12 @@ pub words_refused : (words : List (List ℕ)) (r : WordRefusal) → Means words 
 words_refused words word_refusals.Usage means = inl means
 words_refused words (word_refusals.Number place) means = inr (place, means)
 
--- ---- which input was not read
-
-no_fault_refusal : (P : Part → Type 0) (r : Refusal) → (IsFaultRefusal r → ⊥) → OnFaultRefusal P r
-no_fault_refusal P (refusals.Bench r) none = tt
-no_fault_refusal P (refusals.Net r) none = tt
-no_fault_refusal P (refusals.Dumped r) none = tt
-no_fault_refusal P (refusals.Words r) none = tt
-no_fault_refusal P (refusals.TooLong part) none = tt
-no_fault_refusal P (refusals.Fault part) none = absurd (none tt)
-no_fault_refusal P (refusals.CellsByWords product) none = tt
-no_fault_refusal P (refusals.TraceUnknown place item) none = tt
-no_fault_refusal P (refusals.TraceTwice place item) none = tt
-no_fault_refusal P refusals.NoMemory none = tt
-
-pub no_faults : (P : Part → Type 0) (reply : Reply) → (IsFault reply → ⊥) → OnFault P reply
-no_faults P (replies.Refused r) none = no_fault_refusal P r none
-no_faults P (replies.Known t) none = tt
-no_faults P (replies.Clash n cell) none = tt
-no_faults P (replies.Text text) none = tt
-no_faults P (replies.Load loaded) none = tt
-
-fault_refusal_also : (P Q : Part → Type 0) (r : Refusal) → ((part : Part) → P part → Q part) → OnFaultRefusal P r → OnFaultRefusal Q r
-fault_refusal_also P Q (refusals.Bench r) also h = tt
-fault_refusal_also P Q (refusals.Net r) also h = tt
-fault_refusal_also P Q (refusals.Dumped r) also h = tt
-fault_refusal_also P Q (refusals.Words r) also h = tt
-fault_refusal_also P Q (refusals.TooLong part) also h = tt
-fault_refusal_also P Q (refusals.Fault part) also h = also part h
-fault_refusal_also P Q (refusals.CellsByWords product) also h = tt
-fault_refusal_also P Q (refusals.TraceUnknown place item) also h = tt
-fault_refusal_also P Q (refusals.TraceTwice place item) also h = tt
-fault_refusal_also P Q refusals.NoMemory also h = tt
-
-pub faults_also : (P Q : Part → Type 0) (reply : Reply) → ((part : Part) → P part → Q part) → OnFault P reply → OnFault Q reply
-faults_also P Q (replies.Refused r) also h = fault_refusal_also P Q r also h
-faults_also P Q (replies.Known t) also h = tt
-faults_also P Q (replies.Clash n cell) also h = tt
-faults_also P Q (replies.Text text) also h = tt
-faults_also P Q (replies.Load loaded) also h = tt
-
-pub unread_faults : (P : Part → Type 0) (part : Part) (refusal : ReadRefusal) → (IsErrOf (whole refusal) reads.Fault → P part) → OnFaultRefusal P (unread_refusal part refusal)
-unread_faults P part reads.Fault h = h refl
-unread_faults P part reads.TooLong h = tt
-unread_faults P part reads.NoMemory h = tt
-
-pub netlist_fault_of : (told : Option Held) (shaky : Option (List ℕ → Bool)) (netlist dump : List ℕ) (part : Part) → IsNetlistFault told shaky netlist part → IsRestoreFault told shaky netlist dump part
-netlist_fault_of told shaky netlist dump parts.Netlist h = h
-netlist_fault_of told shaky netlist dump parts.Dump h = absurd h
-
--- a fault of the dump behind an accepted netlist
-pub dump_fault_of : (told : Option Held) (shaky : Option (List ℕ → Bool)) (netlist dump : List ℕ) (c : Circuit) → IfSome told (λ held. IsNetlistOf held netlist c)
-    → (part : Part) → IsDumpFault told shaky dump part → IsRestoreFault told shaky netlist dump part
-dump_fault_of told shaky netlist dump c is parts.Netlist h = absurd h
-dump_fault_of told shaky netlist dump c is parts.Dump h = (h, accepted told is) where
-  accepted : (t : Option Held) → IfSome t (λ held. IsNetlistOf held netlist c) → IfSome t (IsAcceptedNetlist netlist)
-  accepted None there = tt
-  accepted (Some held) there = (c, there)
-
 -- ---- what a reply's text and status say
 
 plainly : (words : List (List ℕ)) (told : Option Held) (reply : Reply) → ReplyAnswer words told reply → IsPlain (status_of reply) → (held : Held) → TellsEnough words told held → Answer words held (text_of words reply) (status_of reply)
 plainly words told reply answer plain held enough = answer held enough plain
 
-says_refused : (words : List (List ℕ)) (told : Option Held) (shaky : Option (List ℕ → Bool)) (r : Refusal) → ReplyAnswer words told (replies.Refused r) → OnFaultRefusal (IsWordsFault words told shaky) r
+says_refused : (words : List (List ℕ)) (told : Option Held) (shaky : Option (List ℕ → Bool)) (r : Refusal) → ReplyAnswer words told (replies.Refused r) → IfSome (refusal_fault r) (IsWordsFault words told shaky)
     → Says words told shaky (text_of words (replies.Refused r)) (refusal_status r)
 says_refused words told shaky (refusals.Fault part) answer fault = (part, refl, fault)
 says_refused words told shaky refusals.NoMemory answer fault = refl
@@ -385,7 +292,7 @@ says_refused words told shaky (refusals.Dumped (dumps.TwiceNamed line)) answer f
 says_refused words told shaky (refusals.Dumped (dumps.RowLength line)) answer fault = plainly words told (replies.Refused (refusals.Dumped (dumps.RowLength line))) answer tt
 says_refused words told shaky (refusals.Dumped (dumps.BadBit line)) answer fault = plainly words told (replies.Refused (refusals.Dumped (dumps.BadBit line))) answer tt
 
-pub says : (words : List (List ℕ)) (told : Option Held) (shaky : Option (List ℕ → Bool)) (reply : Reply) → ReplyAnswer words told reply → OnFault (IsWordsFault words told shaky) reply
+pub says : (words : List (List ℕ)) (told : Option Held) (shaky : Option (List ℕ → Bool)) (reply : Reply) → ReplyAnswer words told reply → IfSome (fault_of reply) (IsWordsFault words told shaky)
     → Says words told shaky (text_of words reply) (status_of reply)
 says words told shaky (replies.Refused r) answer fault = says_refused words told shaky r answer fault
 says words told shaky (replies.Known t) answer fault = plainly words told (replies.Known t) answer tt

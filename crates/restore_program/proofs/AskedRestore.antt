@@ -11,9 +11,6 @@ module _ {A : Type 0} (text : A → List ℕ) (xs : List A) (netlist dump : List
   pub restore_files : 2 < length xs
   restore_files = subst (λ n. 2 < n) (length-map xs text) is.shaped.files
 
-  pub restore_never_refused : ¬ AreRefused (map text xs)
-  restore_never_refused refused = ⊎_elim (λ none. none (restore_command (map text xs) is.shaped)) (λ bad. restore_or_bad (map text xs) bad.0 is.shaped bad.1) refused
-
   -- the files by their words
   pub restores_seen : (x y : A) (seen other : List ℕ) → x ≡ get_or xs 1 x → y ≡ get_or xs 2 y → seen ≡ text x → other ≡ text y → Restores (map text xs) seen other all
   restores_seen x y seen other at_first at_second is_seen is_other = record {

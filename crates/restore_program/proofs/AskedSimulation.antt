@@ -30,9 +30,6 @@ module _ {A : Type 0} (text : A → List ℕ) (xs : List A) where
     pub cycles_counted : (1 ≤ cycles) × (cycles ≤ 8192)
     cycles_counted = let number = is.has_cycles.3 in (number.1, number.2)
 
-    pub never_refused : ¬ AreRefused (map text xs)
-    never_refused refused = ⊎_elim (λ none. none (simulate_command (map text xs) is.shaped)) (λ bad. simulate_or_bad (map text xs) netlist cycles seed trace bad.0 is (bad_of simulate_rule (map text xs) bad.0 simulate_is_one is.shaped bad.1).0) refused
-
     -- the netlist by its word
     pub same_netlist : (x : A) (seen : List ℕ) → 1 < length xs → x ≡ get_or xs 1 x → seen ≡ text x → Simulates (map text xs) seen cycles seed trace
     same_netlist x seen within at e = subst (λ n. Simulates (map text xs) n cycles seed trace) (same_Some netlist seen (sym is.is_netlist ∙ text_here text xs 1 x seen within at e)) is

@@ -10,6 +10,7 @@ pub mod DecidedNumbers
 pub mod DecidedShapes
 pub mod Deciding
 pub mod FewWords
+pub mod Files
 pub mod Gifts
 pub mod GivenKeys
 pub mod GivenValues
@@ -25,6 +26,7 @@ pub mod OneRun
 pub mod OneTrace
 pub mod Outcomes
 pub mod Prepared
+pub mod Reading
 pub mod SameTests
 pub mod SimulatedTraces
 pub mod Simulations

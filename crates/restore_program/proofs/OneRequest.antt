@@ -1,7 +1,8 @@
 -- Words ask for one thing at most.
-use Rattle.std.proofs.Common.{◌≡◌, ℕ, List, [], ◌∷◌, get_or, sym, ap, ◌∙◌}
+use Rattle.std.proofs.Common.{◌≡◌, ℕ, List, [], ◌∷◌, get_or, sym, ap, ◌∙◌, ⊎_elim}
 use Rattle.std.specs.Prelude.{codes}
 use Rattle.std.proofs.lemmas.Option.{same_Some}
+use Rattle.restore_program.specs.Faults.{AreRefused}
 use Rattle.restore_program.specs.Requests.{Request, Asks, Traces, restoration, simulation, printing, loading}
 use Rattle.restore_program.specs.Words.{IsBadNumber, IsCommand, Prints, simulate_rule, trace_rule}
 use Rattle.restore_program.proofs.CommandShapes.{load_command, print_command, print_or_load, print_or_restore, print_or_simulate, restore_command, restore_or_load, restore_or_simulate, simulate_command, simulate_is_one, simulate_or_load}
@@ -58,3 +59,7 @@ asked_good words (restoration n d all) place a bad = restore_or_bad words place 
 asked_good words (simulation n cycles seed list) place (own, run, gives) bad = simulate_or_bad words n cycles seed own place run (bad_of simulate_rule words place simulate_is_one run.shaped bad).0
 asked_good words (printing n) place a bad = print_or_bad words place (n, a) bad
 asked_good words (loading number signals) place a bad = load_or_bad words number signals place a bad
+
+-- so they are not refused
+pub asked_refused : (words : List (List ℕ)) (request : Request) → Asks words request → ¬ AreRefused words
+asked_refused words request asks refused = ⊎_elim (λ none. none (asked_command words request asks)) (λ bad. asked_good words request bad.0 asks bad.1) refused

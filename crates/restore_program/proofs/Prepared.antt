@@ -1,12 +1,12 @@
 -- A reply, or want of memory in place of a table.
-use Rattle.std.proofs.Common.{◌≡◌, ◌⊎◌, ℕ, List, Option, inl, inr, sym, subst}
+use Rattle.std.proofs.Common.{◌≡◌, ◌⊎◌, ℕ, List, Option, inl, inr, sym, ap, subst}
 use Rattle.sr_outside.specs.Told.{Held}
 use Rattle.report.specs.declared.refusal.Refusal.TheVariants as refusals
 use Rattle.restore_program.specs.declared.reply.Reply.{Reply}
 use Rattle.restore_program.specs.declared.reply.Reply.TheVariants as replies
 use Rattle.restore_program.specs.declared.status.Status.TheVariants as statuses
 use Rattle.restore_program.specs.Reply.{IsTableReply, status_of}
-use Rattle.restore_program.specs.ReplyAnswers.{ReplyAnswer}
+use Rattle.restore_program.specs.ReplyAnswers.{ReplyAnswer, fault_of}
 
 no_memory : Reply
 no_memory = replies.Refused refusals.NoMemory
@@ -26,3 +26,12 @@ prepared_status (replies.Refused r) prepared (inr (other, none)) e = absurd othe
 prepared_status (replies.Clash n cell) prepared (inr (other, none)) e = absurd other
 prepared_status (replies.Text text) prepared (inr (other, none)) e = absurd other
 prepared_status (replies.Load loaded) prepared (inr (other, none)) e = absurd other
+
+-- and none says that a part was not read
+pub prepared_fault : (reply prepared : Reply) → IsPrepared reply prepared → fault_of prepared ≡ fault_of reply
+prepared_fault reply prepared (inl same) = ap fault_of same
+prepared_fault (replies.Known table) prepared (inr (_, none)) = ap fault_of none
+prepared_fault (replies.Refused r) prepared (inr (other, none)) = absurd other
+prepared_fault (replies.Clash n cell) prepared (inr (other, none)) = absurd other
+prepared_fault (replies.Text text) prepared (inr (other, none)) = absurd other
+prepared_fault (replies.Load loaded) prepared (inr (other, none)) = absurd other

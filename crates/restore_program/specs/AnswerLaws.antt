@@ -1,5 +1,5 @@
 -- The laws of an answer, for all words and all that the inputs hold.
-use Rattle.std.specs.Prelude.{ℕ, ◌≡◌, Bool, List, IsSome, ⊤}
+use Rattle.std.specs.Prelude.{ℕ, ◌≡◌, Bool, List, IsSome, Some}
 use Rattle.sr_model.specs.declared.cells.Cell.{Cell}
 use Rattle.sr_model.specs.declared.cells.Sig.{Sig}
 use Rattle.sr_model.specs.Closure.{HasBoth, IsWithin}
@@ -11,20 +11,17 @@ use Rattle.cycle_sim.specs.Simulation.{IsSimulated, traced_rows}
 use Rattle.restore_program.specs.declared.status.Status.{Status}
 use Rattle.restore_program.specs.declared.status.Status.TheVariants as statuses
 use Rattle.restore_program.specs.Answer.{Answer, KnownFrom}
-use Rattle.restore_program.specs.Faults.{IsAcceptedNetlist}
-use Rattle.restore_program.specs.Requests.{Request, Asks, restoration, simulation, printing, loading}
+use Rattle.restore_program.specs.Faults.{IsComeTo}
+use Rattle.restore_program.specs.Requests.{File, Request, Asks, files_of}
 use Rattle.restore_program.specs.Sound.{Accepts, IsPrintable, IsTableOrClash, IsTraceable}
 
 -- there is one answer at most
 abbrev pub HasOneAnswer : Type 0
 HasOneAnswer = (words : List (List ℕ)) (held : Held) (text other : List ℕ) (status last : Status) → Answer words held text status → Answer words held other last → (text ≡ other) × (status ≡ last)
 
--- the inputs that are come to on what is asked for are held: its netlist, and behind an accepted one its dump
+-- each file that is come to on what is asked for is held
 abbrev pub IsServed : Held → Request → Type 0
-IsServed held (restoration netlist dump all) = IsSome (held netlist) × (IsAcceptedNetlist netlist held → IsSome (held dump))
-IsServed held (simulation netlist cycles seed list) = IsSome (held netlist)
-IsServed held (printing netlist) = IsSome (held netlist)
-IsServed held (loading number signals) = ⊤
+IsServed held request = (file : File) → IsComeTo (Some held) (files_of request) file → IsSome (held file.1)
 
 -- there is an answer wherever the inputs that are come to are held
 abbrev pub AnswerExists : Type 0

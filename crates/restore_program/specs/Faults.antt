@@ -1,11 +1,12 @@
 -- Which inputs are come to, and what is said of one that was not read.
-use Rattle.std.specs.Prelude.{ℕ, ◌≡◌, ◌⊎◌, ⊤, Bool, List, Option, Some, IfSome}
+use Rattle.std.specs.Prelude.{ℕ, ◌≡◌, ◌⊎◌, Bool, List, ◌∷◌, ◌++◌, Option, Some, IfSome, All}
 use Rattle.sr_outside.specs.Told.{Held, IsSteady}
 use Rattle.netlist.specs.Circuit.{Circuit}
+use Rattle.dump_reader.specs.Recording.{Recording}
 use Rattle.report.specs.declared.refusal.Part.{Part}
 use Rattle.report.specs.declared.refusal.Part.TheVariants as parts
-use Rattle.restore_program.specs.Answer.{IsNetlistOf}
-use Rattle.restore_program.specs.Requests.{Request, Asks, restoration, simulation, printing, loading}
+use Rattle.restore_program.specs.Answer.{IsDumpText, IsNetlistOf}
+use Rattle.restore_program.specs.Requests.{File, Request, Asks, files_of}
 use Rattle.restore_program.specs.Words.{IsBadNumber, IsCommand, Loads}
 
 -- the words are refused by themselves
@@ -24,41 +25,40 @@ NeedsNoInput words = AreRefused words ⊎ IsLoad words
 abbrev pub TellsEnough : List (List ℕ) → Option Held → Held → Type 0
 TellsEnough words told held = (told ≡ Some held) ⊎ NeedsNoInput words
 
--- it is told that the files of what is asked for are held and that no call on them is to fail
-abbrev pub AreSteadyFor : Option Held → Option (List ℕ → Bool) → Request → Type 0
-AreSteadyFor told shaky (restoration netlist dump all) = IsSteady told shaky netlist × IsSteady told shaky dump
-AreSteadyFor told shaky (simulation netlist cycles seed list) = IsSteady told shaky netlist
-AreSteadyFor told shaky (printing netlist) = IsSteady told shaky netlist
-AreSteadyFor told shaky (loading number signals) = ⊤
+-- ---- which input
 
--- and so of all that the words may ask for
+-- the file is held, and its text is that of this netlist, or of a dump of it
+abbrev pub IsAcceptedOn : Circuit → Held → File → Type 0
+IsAcceptedOn c held (parts.Netlist, name) = IsNetlistOf held name c
+IsAcceptedOn c held (parts.Dump, name) = (bytes : List ℕ) × (d : Recording) × (held name ≡ Some bytes) × IsDumpText c bytes d
+
+-- the files are held and accepted, on one netlist
+abbrev pub AreAccepted : Held → List File → Type 0
+AreAccepted held files = (c : Circuit) × All (IsAcceptedOn c held) files
+
+-- The file is come to: it is one of these, and where it is told what the inputs hold, those before it are accepted.
+pub record IsComeTo (told : Option Held) (files : List File) (file : File) : Type 0 where
+  pub before : List File
+  pub after : List File
+  pub is_one : files ≡ before ++ file ∷ after
+  pub accepted : IfSome told (λ held. AreAccepted held before)
+
+-- the file is come to on what the words ask for
+abbrev pub IsFileOf : List (List ℕ) → Option Held → File → Type 0
+IsFileOf words told file = (request : Request) × Asks words request × IsComeTo told (files_of request) file
+
+-- ---- what is told of the files of which this holds
+
+-- they are held, and no call on them is to fail
+abbrev pub AreAllSteady : Option Held → Option (List ℕ → Bool) → (File → Type 0) → Type 0
+AreAllSteady told shaky Of = (file : File) → Of file → IsSteady told shaky file.1
+
+-- A fault can be one of this part: such a file has it, and it is not told that the file is held and that no call on it is to fail.
+abbrev pub IsFaultOf : Option Held → Option (List ℕ → Bool) → (File → Type 0) → Part → Type 0
+IsFaultOf told shaky Of part = (name : List ℕ) × Of (part, name) × ¬ IsSteady told shaky name
+
 abbrev pub AreSteady : Option Held → Option (List ℕ → Bool) → List (List ℕ) → Type 0
-AreSteady told shaky words = (request : Request) → Asks words request → AreSteadyFor told shaky request
-
--- the netlist of this name is held and accepted
-abbrev pub IsAcceptedNetlist : List ℕ → Held → Type 0
-IsAcceptedNetlist netlist held = (c : Circuit) × IsNetlistOf held netlist c
-
--- a fault is one of the netlist, and only where it is not told that no call on its name is to fail
-abbrev pub IsNetlistFault : Option Held → Option (List ℕ → Bool) → List ℕ → Part → Type 0
-IsNetlistFault told shaky netlist parts.Netlist = ¬ IsSteady told shaky netlist
-IsNetlistFault told shaky netlist parts.Dump = ⊥
-
-abbrev pub IsDumpFault : Option Held → Option (List ℕ → Bool) → List ℕ → Part → Type 0
-IsDumpFault told shaky dump parts.Netlist = ⊥
-IsDumpFault told shaky dump parts.Dump = ¬ IsSteady told shaky dump
-
--- A fault can be one of this part: only where it is not told that no call on its name is to fail, and of the dump only where the netlist is accepted.
-abbrev pub IsRestoreFault : Option Held → Option (List ℕ → Bool) → List ℕ → List ℕ → Part → Type 0
-IsRestoreFault told shaky netlist dump parts.Netlist = ¬ IsSteady told shaky netlist
-IsRestoreFault told shaky netlist dump parts.Dump = (¬ IsSteady told shaky dump) × IfSome told (IsAcceptedNetlist netlist)
-
--- on what is asked for
-abbrev pub IsRequestFault : Option Held → Option (List ℕ → Bool) → Request → Part → Type 0
-IsRequestFault told shaky (restoration netlist dump all) = IsRestoreFault told shaky netlist dump
-IsRequestFault told shaky (simulation netlist cycles seed list) = IsNetlistFault told shaky netlist
-IsRequestFault told shaky (printing netlist) = IsNetlistFault told shaky netlist
-IsRequestFault told shaky (loading number signals) = λ part. ⊥
+AreSteady told shaky words = AreAllSteady told shaky (IsFileOf words told)
 
 abbrev pub IsWordsFault : List (List ℕ) → Option Held → Option (List ℕ → Bool) → Part → Type 0
-IsWordsFault words told shaky part = (request : Request) × Asks words request × IsRequestFault told shaky request part
+IsWordsFault words told shaky = IsFaultOf told shaky (IsFileOf words told)

@@ -3,7 +3,7 @@ pub mod AnswerLaws
 pub mod Faults
 pub mod Loading
 pub mod Outcome
-pub mod Printing
+pub mod Reads
 pub mod ReplyAnswers
 pub mod Reply
 pub mod Requests

@@ -1,5 +1,5 @@
 -- What holds of a reply before it is written.
-use Rattle.std.specs.Prelude.{ℕ, ⊤, List, Option}
+use Rattle.std.specs.Prelude.{ℕ, ⊤, List, Option, Some, None, Result, Ok, Err}
 use Rattle.sr_outside.specs.Told.{Held}
 use Rattle.sr_outside.specs.declared.whole.ReadRefusal.{ReadRefusal}
 use Rattle.sr_outside.specs.declared.whole.ReadRefusal.TheVariants as reads
@@ -29,14 +29,19 @@ abbrev pub IsOfWords : Reply → Type 0
 IsOfWords (replies.Refused refusal) = IsWordsRefusal refusal
 IsOfWords _ = ⊥
 
--- an input was not read
-abbrev pub IsFaultRefusal : Refusal → Type 0
-IsFaultRefusal (refusals.Fault part) = ⊤
-IsFaultRefusal _ = ⊥
+-- the part of which it is said that it was not read
+abbrev pub refusal_fault : Refusal → Option Part
+refusal_fault (refusals.Fault part) = Some part
+refusal_fault _ = None
 
-abbrev pub IsFault : Reply → Type 0
-IsFault (replies.Refused refusal) = IsFaultRefusal refusal
-IsFault _ = ⊥
+abbrev pub fault_of : Reply → Option Part
+fault_of (replies.Refused refusal) = refusal_fault refusal
+fault_of _ = None
+
+-- a reply in place of a value
+abbrev pub fault_in : {V : Type 0} → Result V Reply → Option Part
+fault_in (Ok value) = None
+fault_in (Err reply) = fault_of reply
 
 -- what is written of an input that was not read
 abbrev pub unread_refusal : Part → ReadRefusal → Refusal
@@ -47,12 +52,3 @@ unread_refusal part reads.NoMemory = refusals.NoMemory
 -- what the words ask for is answered
 abbrev pub ReplyAnswer : List (List ℕ) → Option Held → Reply → Type 0
 ReplyAnswer words told reply = (held : Held) → TellsEnough words told held → Replies words (Answer words held) reply
-
--- where the refusal says that a part was not read, this holds of the part
-abbrev pub OnFaultRefusal : (Part → Type 0) → Refusal → Type 0
-OnFaultRefusal P (refusals.Fault part) = P part
-OnFaultRefusal P _ = ⊤
-
-abbrev pub OnFault : (Part → Type 0) → Reply → Type 0
-OnFault P (replies.Refused refusal) = OnFaultRefusal P refusal
-OnFault P _ = ⊤

@@ -1,5 +1,7 @@
 -- What words can ask for.
-use Rattle.std.specs.Prelude.{ℕ, Bool, List}
+use Rattle.std.specs.Prelude.{ℕ, Bool, List, [], ◌∷◌}
+use Rattle.report.specs.declared.refusal.Part.{Part}
+use Rattle.report.specs.declared.refusal.Part.TheVariants as parts
 use Rattle.restore_program.specs.Words.{Restores, Simulates, Prints, Loads, GivesAt, simulate_rule, trace_rule}
 
 -- the restoration of a dump, with the rows of all signals or of the flip-flops alone; a run of so many cycles from a seed, with a trace of the signals that a list names;
@@ -19,3 +21,14 @@ Asks words (restoration netlist dump all) = Restores words netlist dump all
 Asks words (simulation netlist cycles seed list) = Traces words netlist cycles seed list
 Asks words (printing netlist) = Prints words netlist
 Asks words (loading number signals) = Loads words number signals
+
+-- a file: which input it is, and its name
+abbrev pub File : Type 0
+File = Part × List ℕ
+
+-- the files that a request comes to, in this order
+abbrev pub files_of : Request → List File
+files_of (restoration netlist dump all) = (parts.Netlist, netlist) ∷ (parts.Dump, dump) ∷ []
+files_of (simulation netlist cycles seed list) = (parts.Netlist, netlist) ∷ []
+files_of (printing netlist) = (parts.Netlist, netlist) ∷ []
+files_of (loading number signals) = []

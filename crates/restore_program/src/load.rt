@@ -1,12 +1,12 @@
 //! From a number to what follows from a trace of the netlist that is drawn from it.
-ghost use Rattle.std.specs.Prelude.{◌≡◌, ◌<◌, ◌/◌, ℕ, Bool, List, length, All, IfOk};
+ghost use Rattle.std.specs.Prelude.{◌≡◌, ◌<◌, ◌/◌, ℕ, Bool, List, length, All, IfOk, None};
 ghost use Rattle.sr_model.specs.Dump.{Row};
 ghost use Rattle.netlist.specs.Circuit.{IsCircuit};
 ghost use Rattle.netlist.specs.Wiring.{flip_flops};
 ghost use Rattle.unroll.specs.Problem.{signals_in};
 ghost use Rattle.cycle_sim.specs.Load.{IsLoadSize};
 ghost use Rattle.restore_program.specs.Answer.{OnLoad};
-ghost use Rattle.restore_program.specs.ReplyAnswers.{IsFault, IsOfWords, Replies};
+ghost use Rattle.restore_program.specs.ReplyAnswers.{IsOfWords, Replies, fault_of};
 ghost use Rattle.restore_program.specs.Loading.{AreCountsOf, IsLoadText, IsLoadTrace, load_circuit};
 ghost use Rattle.restore_program.specs.Reply.{IsReady, loaded_line};
 
@@ -37,7 +37,7 @@ pub(crate) fn load_reply<R: Threads + Sync, C: Closer>(
     ensures answer { (words : List (List ℕ)) → Replies words (OnLoad number signals) result }
     ensures ready { (words : List (List ℕ)) → IsReady words result }
     ensures not_of_words { ¬ (IsOfWords result) }
-    ensures no_fault { ¬ (IsFault result) }
+    ensures no_fault { fault_of result ≡ None }
 {
     match loaded_from(rt, alloc, closer, number, signals) {
         Ok(loaded) => Reply::Load { loaded },

@@ -1,11 +1,12 @@
 //! From the name of a netlist to the netlist.
-ghost use Rattle.std.specs.Prelude.{◌≡◌, ◌≢◌, ◌<◌, ◌≤◌, ℕ, List, length, IfOk, IfErr, OnOk, IfSome};
-ghost use Rattle.sr_outside.specs.Counts.{IsCounted};
-ghost use Rattle.sr_outside.specs.Told.{IsSteady};
+ghost use Rattle.std.specs.Prelude.{◌≡◌, ◌≤◌, List, ◌∷◌, ℕ, length, IfOk, IfErr, IfSome, None};
+ghost use Rattle.report.specs.declared.refusal.Part.TheVariants as parts;
 ghost use Rattle.restore_program.specs.Reply.{IsReady};
 ghost use Rattle.restore_program.specs.Answer.{most_bytes, IsNetlistOf, IsNetlistText, OnRefused, RefusedNetlist};
-ghost use Rattle.restore_program.specs.Faults.{IsNetlistFault};
-ghost use Rattle.restore_program.specs.ReplyAnswers.{IsOfWords, IsFault, OnFault, Replies, unread_refusal};
+ghost use Rattle.restore_program.specs.Faults.{IsComeTo};
+ghost use Rattle.restore_program.specs.Reads.{Reads};
+ghost use Rattle.restore_program.specs.ReplyAnswers.{IsOfWords, Replies, fault_in, unread_refusal};
+ghost use Rattle.restore_program.specs.Requests.{File};
 
 use crate::reply::Reply;
 use bench_reader::read_bench;
@@ -26,15 +27,8 @@ pub(crate) fn read_netlist<I: Inputs>(
     ensures netlist { IfOk result (λ n. IfSome (I.held inputs.old) (λ held. IsNetlistOf held name.now n)) }
     ensures refused { IfErr result (λ reply. (words : List (List ℕ)) → IfSome (I.held inputs.old) (λ held. Replies words (OnRefused held name.now) reply)) }
     ensures ready { IfErr result (λ reply. (words : List (List ℕ)) → IsReady words reply) }
-    ensures fault_of { IfErr result (OnFault (IsNetlistFault (I.held inputs.old) (I.shaky inputs.old) name.now)) }
     ensures not_of_words { IfErr result (λ reply. ¬ (IsOfWords reply)) }
-    ensures held { I.held inputs.new ≡ I.held inputs.old }
-    ensures shaky { I.shaky inputs.new ≡ I.shaky inputs.old }
-    ensures fault { IfErr result (λ reply. IsFault reply → IsCounted (I.faults inputs.old) (I.faults inputs.new)) }
-    ensures uncounted { OnOk result (I.faults inputs.new ≡ I.faults inputs.old) }
-    ensures rose { I.faults inputs.old < I.faults inputs.new → IfErr result IsFault }
-    ensures never_falls { I.faults inputs.old ≤ I.faults inputs.new }
-    ensures steady { IsSteady (I.held inputs.old) (I.shaky inputs.old) name.now → I.faults inputs.new ≡ I.faults inputs.old }
+    ensures reads { (behind : List File) → Reads I.held I.shaky I.faults inputs.old inputs.new (IsComeTo (I.held inputs.old) ((parts.Netlist, name.now) ∷ behind)) (fault_in result) }
 {
     match read_whole(alloc, inputs, name, MOST_BYTES) {
         Ok(text) => parse_netlist(alloc, text.as_slice()),
@@ -62,7 +56,7 @@ fn parse_netlist(alloc: Global, bytes: &[u8]) -> Result<Netlist, Reply>
     ensures refused { IfErr result (λ reply. (words : List (List ℕ)) → Replies words (RefusedNetlist bytes.now) reply) }
     ensures ready { IfErr result (λ reply. (words : List (List ℕ)) → IsReady words reply) }
     ensures not_of_words { IfErr result (λ reply. ¬ (IsOfWords reply)) }
-    ensures no_fault { IfErr result (λ reply. ¬ (IsFault reply)) }
+    ensures no_fault { fault_in result ≡ None }
 {
     let statements = match read_bench(alloc, bytes) {
         Ok(statements) => statements,

@@ -1,13 +1,11 @@
 //! From a netlist to its text.
-ghost use Rattle.std.specs.Prelude.{◌≡◌, ◌≢◌, ◌<◌, ◌≤◌, ℕ, List, IfSome};
-ghost use Rattle.sr_outside.specs.Counts.{IsCounted};
-ghost use Rattle.sr_outside.specs.Told.{IsSteady};
-ghost use Rattle.restore_program.specs.Answer.{RequestAnswer};
-ghost use Rattle.restore_program.specs.Faults.{IsNetlistFault};
-ghost use Rattle.restore_program.specs.ReplyAnswers.{IsOfWords, IsFault, OnFault, Replies};
-ghost use Rattle.restore_program.specs.Printing.{IsPrinted};
+ghost use Rattle.std.specs.Prelude.{◌≡◌, ℕ, List, IfSome, None};
+ghost use Rattle.restore_program.specs.Answer.{OnPrint, RequestAnswer};
+ghost use Rattle.restore_program.specs.Faults.{IsComeTo};
+ghost use Rattle.restore_program.specs.Reads.{Reads};
+ghost use Rattle.restore_program.specs.ReplyAnswers.{IsOfWords, Replies, fault_of};
 ghost use Rattle.restore_program.specs.Reply.{IsReady};
-ghost use Rattle.restore_program.specs.Requests.{printing};
+ghost use Rattle.restore_program.specs.Requests.{files_of, printing};
 
 use crate::netlists::read_netlist;
 use crate::reply::Reply;
@@ -22,12 +20,8 @@ use std::alloc::Global;
 pub(crate) fn print_reply<I: Inputs>(alloc: Global, inputs: &mut I, netlist: &str) -> Reply
     ensures answer { (words : List (List ℕ)) → IfSome (I.held inputs.old) (λ held. Replies words (RequestAnswer held (printing netlist.now)) result) }
     ensures ready { (words : List (List ℕ)) → IsReady words result }
-    ensures fault_of { OnFault (IsNetlistFault (I.held inputs.old) (I.shaky inputs.old) netlist.now) result }
     ensures not_of_words { ¬ (IsOfWords result) }
-    ensures fault { IsFault result → IsCounted (I.faults inputs.old) (I.faults inputs.new) }
-    ensures rose { I.faults inputs.old < I.faults inputs.new → IsFault result }
-    ensures never_falls { I.faults inputs.old ≤ I.faults inputs.new }
-    ensures steady { IsSteady (I.held inputs.old) (I.shaky inputs.old) netlist.now → I.faults inputs.new ≡ I.faults inputs.old }
+    ensures reads { Reads I.held I.shaky I.faults inputs.old inputs.new (IsComeTo (I.held inputs.old) (files_of (printing netlist.now))) (fault_of result) }
 {
     match read_netlist(alloc, inputs, netlist) {
         Ok(n) => printed_reply(alloc, &n),
@@ -37,7 +31,10 @@ pub(crate) fn print_reply<I: Inputs>(alloc: Global, inputs: &mut I, netlist: &st
 
 /// The text of a netlist that was read.
 fn printed_reply(alloc: Global, n: &Netlist) -> Reply
-    ensures { IsPrinted n.now result }
+    ensures answer { (words : List (List ℕ)) → Replies words (OnPrint n.now) result }
+    ensures ready { (words : List (List ℕ)) → IsReady words result }
+    ensures not_of_words { ¬ (IsOfWords result) }
+    ensures no_fault { fault_of result ≡ None }
 {
     match print_bench(alloc, n) {
         Ok(text) => Reply::Text { text },

@@ -1,20 +1,20 @@
 //! From a netlist and a dump to what is known.
-ghost use Rattle.std.specs.Prelude.{◌≡◌, ◌<◌, ◌≤◌, ℕ, List, length, All, IfOk, IfSome, IsNone};
+ghost use Rattle.std.specs.Prelude.{◌≡◌, ◌<◌, ◌≤◌, ℕ, List, length, All, IfOk, IfSome, IsNone, None};
 ghost use Rattle.sr_model.specs.declared.cells.Cell.{Cell as AnyCell};
 ghost use Rattle.sr_model.specs.declared.cells.Lit.{Lit};
 ghost use Rattle.sr_model.specs.Closure.{Closure, HasBoth, SameLits};
 ghost use Rattle.sr_model.specs.Dump.{Row, dump_has};
-ghost use Rattle.sr_outside.specs.Counts.{IsCounted};
-ghost use Rattle.sr_outside.specs.Told.{IsSteady};
+ghost use Rattle.report.specs.declared.refusal.Part.TheVariants as parts;
 ghost use Rattle.dump_reader.specs.Grammar.{block_count};
 ghost use Rattle.unroll.specs.Problem.{signals_in, unrolled};
 ghost use Rattle.known_planes.specs.Planes.{IsOf, has, lits};
 ghost use Rattle.restore_program.specs.Answer.{DumpAnswer, IsDumpText, OnDump, RequestAnswer, most_bytes};
-ghost use Rattle.restore_program.specs.Faults.{IsDumpFault, IsRestoreFault};
-ghost use Rattle.restore_program.specs.ReplyAnswers.{IsFault, IsOfWords, OnFault, Replies};
+ghost use Rattle.restore_program.specs.Faults.{IsComeTo};
+ghost use Rattle.restore_program.specs.Reads.{Reads};
+ghost use Rattle.restore_program.specs.ReplyAnswers.{IsOfWords, Replies, fault_of};
 ghost use Rattle.restore_program.specs.Outcome.{IsKnown, IsOutcome, IsTraced};
 ghost use Rattle.restore_program.specs.Reply.{IsReady};
-ghost use Rattle.restore_program.specs.Requests.{restoration};
+ghost use Rattle.restore_program.specs.Requests.{files_of, restoration};
 
 use crate::netlists::{MOST_BYTES, read_netlist, unread};
 use crate::reply::{Reply, Table};
@@ -41,13 +41,8 @@ pub(crate) fn restore_reply<R: Threads + Sync, I: Inputs, C: Closer>(
 ) -> Reply
     ensures answer { (words : List (List ℕ)) → IfSome (I.held inputs.old) (λ held. Replies words (RequestAnswer held (restoration netlist.now dump.now all)) result) }
     ensures ready { (words : List (List ℕ)) → IsReady words result }
-    ensures fault_of { OnFault (IsRestoreFault (I.held inputs.old) (I.shaky inputs.old) netlist.now dump.now) result }
     ensures not_of_words { ¬ (IsOfWords result) }
-    ensures fault { IsFault result → IsCounted (I.faults inputs.old) (I.faults inputs.new) }
-    ensures rose { I.faults inputs.old < I.faults inputs.new → IsFault result }
-    ensures never_falls { I.faults inputs.old ≤ I.faults inputs.new }
-    ensures steady { IsSteady (I.held inputs.old) (I.shaky inputs.old) netlist.now → IsSteady (I.held inputs.old) (I.shaky inputs.old) dump.now
-        → I.faults inputs.new ≡ I.faults inputs.old }
+    ensures reads { Reads I.held I.shaky I.faults inputs.old inputs.new (IsComeTo (I.held inputs.old) (files_of (restoration netlist.now dump.now all))) (fault_of result) }
 {
     match read_netlist(alloc, inputs, netlist) {
         Ok(n) => dump_reply(rt, alloc, inputs, closer, n, dump, all),
@@ -67,12 +62,8 @@ fn dump_reply<R: Threads + Sync, I: Inputs, C: Closer>(
 ) -> Reply
     ensures answer { (words : List (List ℕ)) → IfSome (I.held inputs.old) (λ held. Replies words (DumpAnswer held n dump.now all) result) }
     ensures ready { (words : List (List ℕ)) → IsReady words result }
-    ensures fault_of { OnFault (IsDumpFault (I.held inputs.old) (I.shaky inputs.old) dump.now) result }
     ensures not_of_words { ¬ (IsOfWords result) }
-    ensures fault { IsFault result → IsCounted (I.faults inputs.old) (I.faults inputs.new) }
-    ensures rose { I.faults inputs.old < I.faults inputs.new → IsFault result }
-    ensures never_falls { I.faults inputs.old ≤ I.faults inputs.new }
-    ensures steady { IsSteady (I.held inputs.old) (I.shaky inputs.old) dump.now → I.faults inputs.new ≡ I.faults inputs.old }
+    ensures reads { Reads I.held I.shaky I.faults inputs.old inputs.new (λ file. file ≡ (parts.Dump, dump.now)) (fault_of result) }
 {
     match read_whole(alloc, inputs, dump, MOST_BYTES) {
         Ok(text) => recorded_reply(rt, alloc, closer, n, text.as_slice(), all),
@@ -95,7 +86,7 @@ fn recorded_reply<R: Threads + Sync, C: Closer>(
     ensures answer { (words : List (List ℕ)) → Replies words (OnDump n bytes.now all) result }
     ensures ready { (words : List (List ℕ)) → IsReady words result }
     ensures not_of_words { ¬ (IsOfWords result) }
-    ensures no_fault { ¬ (IsFault result) }
+    ensures no_fault { fault_of result ≡ None }
 {
     let dump = match read_dump(alloc, &n, bytes) {
         Ok(dump) => dump,
@@ -184,7 +175,7 @@ fn outcome_reply(netlist: Netlist, dump: &Dump, all: bool, outcome: Outcome) -> 
     ensures answer { (words : List (List ℕ)) (bytes : List ℕ) → IsDumpText netlist bytes dump.now → Replies words (OnDump netlist bytes all) result }
     ensures ready { (words : List (List ℕ)) → IsReady words result }
     ensures not_of_words { ¬ (IsOfWords result) }
-    ensures no_fault { ¬ (IsFault result) }
+    ensures no_fault { fault_of result ≡ None }
 {
     match outcome {
         Outcome::Known { planes, traced } => known_reply(netlist, dump, all, planes, traced),
@@ -200,7 +191,7 @@ fn known_reply(netlist: Netlist, dump: &Dump, all: bool, planes: Planes, traced:
     ensures answer { (words : List (List ℕ)) (bytes : List ℕ) → IsDumpText netlist bytes dump.now → Replies words (OnDump netlist bytes all) result }
     ensures ready { (words : List (List ℕ)) → IsReady words result }
     ensures not_of_words { ¬ (IsOfWords result) }
-    ensures no_fault { ¬ (IsFault result) }
+    ensures no_fault { fault_of result ≡ None }
 {
     Reply::Known {
         table: Table {

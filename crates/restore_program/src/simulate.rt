@@ -1,14 +1,13 @@
 //! From a netlist to the dump of a simulated execution.
-ghost use Rattle.std.specs.Prelude.{◌≡◌, ◌<◌, ◌≤◌, ℕ, List, IfOk, IfSome};
-ghost use Rattle.sr_outside.specs.Counts.{IsCounted};
-ghost use Rattle.sr_outside.specs.Told.{IsSteady};
+ghost use Rattle.std.specs.Prelude.{◌≡◌, ℕ, List, IfOk, IfSome, None};
 ghost use Rattle.netlist.specs.Circuit.{IsCircuit};
 ghost use Rattle.dump_reader.specs.Recording.{IsCount};
 ghost use Rattle.restore_program.specs.Answer.{RequestAnswer};
-ghost use Rattle.restore_program.specs.Faults.{IsNetlistFault};
-ghost use Rattle.restore_program.specs.ReplyAnswers.{IsFault, OnFault, Replies};
+ghost use Rattle.restore_program.specs.Faults.{IsComeTo};
+ghost use Rattle.restore_program.specs.Reads.{Reads};
+ghost use Rattle.restore_program.specs.ReplyAnswers.{Replies, fault_of};
 ghost use Rattle.restore_program.specs.Reply.{IsReady};
-ghost use Rattle.restore_program.specs.Requests.{simulation};
+ghost use Rattle.restore_program.specs.Requests.{files_of, simulation};
 ghost use Rattle.restore_program.specs.TraceRefusals.{HasListAt, list_refusal};
 ghost use Rattle.restore_program.specs.Tracing.{AreNamed, IsTraceText, OnTrace};
 
@@ -40,11 +39,7 @@ pub(crate) fn simulate_reply<I: Inputs>(
     ensures answer { (words : List (List ℕ)) → HasListAt words place list.now
         → IfSome (I.held inputs.old) (λ held. Replies words (RequestAnswer held (simulation netlist.now cycles seed list.now)) result) }
     ensures ready { (words : List (List ℕ)) → HasListAt words place list.now → IsReady words result }
-    ensures fault_of { OnFault (IsNetlistFault (I.held inputs.old) (I.shaky inputs.old) netlist.now) result }
-    ensures fault { IsFault result → IsCounted (I.faults inputs.old) (I.faults inputs.new) }
-    ensures rose { I.faults inputs.old < I.faults inputs.new → IsFault result }
-    ensures never_falls { I.faults inputs.old ≤ I.faults inputs.new }
-    ensures steady { IsSteady (I.held inputs.old) (I.shaky inputs.old) netlist.now → I.faults inputs.new ≡ I.faults inputs.old }
+    ensures reads { Reads I.held I.shaky I.faults inputs.old inputs.new (IsComeTo (I.held inputs.old) (files_of (simulation netlist.now cycles seed list.now))) (fault_of result) }
 {
     match read_netlist(alloc, inputs, netlist) {
         Ok(n) => traced_reply(alloc, &n, cycles, seed, place, list),
@@ -57,7 +52,7 @@ fn traced_reply(alloc: Global, n: &Netlist, cycles: u32, seed: u64, place: u32, 
     requires { IsCount cycles }
     ensures answer { (words : List (List ℕ)) → HasListAt words place list.now → Replies words (OnTrace n.now cycles seed list.now) result }
     ensures ready { (words : List (List ℕ)) → HasListAt words place list.now → IsReady words result }
-    ensures no_fault { ¬ (IsFault result) }
+    ensures no_fault { fault_of result ≡ None }
 {
     let sigs = match traced_signals(alloc, n, list) {
         Ok(sigs) => sigs,

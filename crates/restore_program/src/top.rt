@@ -6,8 +6,9 @@ ghost use Rattle.sr_outside.specs.Counts.{IsCounted};
 ghost use Rattle.sr_outside.specs.Told.{AppendsPart, IsFull, LacksPlace};
 ghost use Rattle.restore_program.specs.declared.status.Status.{Status as AnyStatus};
 ghost use Rattle.restore_program.specs.Words.{Gives, IsRestore, IsSimulate, trace_rule};
-ghost use Rattle.restore_program.specs.Faults.{AreRefused, AreSteady, IsWordsFault, NeedsNoInput};
-ghost use Rattle.restore_program.specs.ReplyAnswers.{IsFault, IsOfWords, OnFault, ReplyAnswer};
+ghost use Rattle.restore_program.specs.Faults.{AreRefused, AreSteady, IsFileOf, NeedsNoInput};
+ghost use Rattle.restore_program.specs.ReplyAnswers.{IsOfWords, ReplyAnswer, fault_of};
+ghost use Rattle.restore_program.specs.Reads.{Reads};
 ghost use Rattle.restore_program.specs.Says.{Says};
 ghost use Rattle.restore_program.specs.Status.{IsPlain};
 ghost use Rattle.restore_program.specs.Reply.{HasBuffer, IsReady, status_of};
@@ -100,13 +101,10 @@ fn prepared_reply<R: Threads + Sync, I: Inputs>(
     ensures answer { ReplyAnswer (map string_bytes words.now) (I.held inputs.old) result.reply }
     ensures ready { IsReady (map string_bytes words.now) result.reply }
     ensures buffer { HasBuffer result.reply result.buf }
-    ensures fault_of { OnFault (IsWordsFault (map string_bytes words.now) (I.held inputs.old) (I.shaky inputs.old)) result.reply }
     ensures of_words { IsOfWords result.reply → AreRefused (map string_bytes words.now) ⊎ IsSimulate (map string_bytes words.now) }
     ensures refused { AreRefused (map string_bytes words.now) → status_of result.reply ≡ Status.Words }
     ensures untouched { NeedsNoInput (map string_bytes words.now) → inputs.new ≡ inputs.old }
-    ensures fault { IsFault result.reply → IsCounted (I.faults inputs.old) (I.faults inputs.new) }
-    ensures rose { I.faults inputs.old < I.faults inputs.new → IsFault result.reply }
-    ensures steady { AreSteady (I.held inputs.old) (I.shaky inputs.old) (map string_bytes words.now) → I.faults inputs.new ≡ I.faults inputs.old }
+    ensures reads { Reads I.held I.shaky I.faults inputs.old inputs.new (IsFileOf (map string_bytes words.now) (I.held inputs.old)) (fault_of result.reply) }
 {
     let mut closer = PlainCloser::new();
     let reply = reply_to(rt, alloc, words, inputs, &mut closer);
@@ -123,13 +121,10 @@ fn reply_to<R: Threads + Sync, I: Inputs, C: Closer>(
 ) -> Reply
     ensures answer { ReplyAnswer (map string_bytes words.now) (I.held inputs.old) result }
     ensures ready { IsReady (map string_bytes words.now) result }
-    ensures fault_of { OnFault (IsWordsFault (map string_bytes words.now) (I.held inputs.old) (I.shaky inputs.old)) result }
     ensures of_words { IsOfWords result → AreRefused (map string_bytes words.now) ⊎ IsSimulate (map string_bytes words.now) }
     ensures refused { AreRefused (map string_bytes words.now) → status_of result ≡ Status.Words }
     ensures untouched { NeedsNoInput (map string_bytes words.now) → inputs.new ≡ inputs.old }
-    ensures fault { IsFault result → IsCounted (I.faults inputs.old) (I.faults inputs.new) }
-    ensures rose { I.faults inputs.old < I.faults inputs.new → IsFault result }
-    ensures steady { AreSteady (I.held inputs.old) (I.shaky inputs.old) (map string_bytes words.now) → I.faults inputs.new ≡ I.faults inputs.old }
+    ensures reads { Reads I.held I.shaky I.faults inputs.old inputs.new (IsFileOf (map string_bytes words.now) (I.held inputs.old)) (fault_of result) }
 {
     match read_words(words) {
         Ok(Settings::Restore { all }) => restore_reply(

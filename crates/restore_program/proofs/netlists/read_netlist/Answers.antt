@@ -1,12 +1,28 @@
-use Rattle.std.proofs.Common.{sym, subst}
+use Rattle.std.proofs.Common.{◌∷◌, Ok, Err, sym, subst}
 use Rattle.std.specs.Prelude.{IfSome}
 use Rattle.report.specs.declared.refusal.Part.TheVariants as parts
 use Rattle.restore_program.specs.declared.reply.Reply.TheVariants as replies
 use Rattle.restore_program.specs.Answer.{OnRefused}
-use Rattle.restore_program.specs.ReplyAnswers.{IsOfWords, Replies}
+use Rattle.restore_program.specs.ReplyAnswers.{IsOfWords, Replies, refusal_fault}
 use Rattle.restore_program.specs.Reply.{IsReady}
 use Rattle.restore_program.proofs.Answering.{unread_input, unread_netlist, unread_ready}
+use Rattle.restore_program.specs.Reads.{Reads}
+use Rattle.restore_program.specs.Faults.{IsComeTo}
+use Rattle.restore_program.proofs.Files.{first_file}
+use Rattle.restore_program.proofs.Reading.{whole_read}
 use Rattle.restore_program.proofs.netlists.read_netlist.Goals as goal
+
+pub returns-in-Ok-clause-reads : goal.returns-in-Ok-clause-reads
+returns-in-Ok-clause-reads g c behind =
+    subst (Reads g.I.Inputs.held g.I.Inputs.shaky g.I.Inputs.faults c.args.inputs.now c.read_whole.new.inputs (IsComeTo (g.I.Inputs.held c.args.inputs.now) ((parts.Netlist, c.args.name.now) ∷ behind))) (sym c.parse_netlist.ensures.no_fault)
+    (whole_read g.I.Inputs.held g.I.Inputs.shaky g.I.Inputs.faults c.args.inputs.now c.read_whole.new.inputs _ (parts.Netlist, c.args.name.now) (first_file (g.I.Inputs.held c.args.inputs.now) (parts.Netlist, c.args.name.now) behind) (Ok c.in-Ok.text)
+    c.in-Ok.ensures.fault c.in-Ok.ensures.rose c.in-Ok.ensures.never_falls c.in-Ok.ensures.steady c.in-Ok.ensures.held c.in-Ok.ensures.shaky)
+
+pub returns-in-Err-clause-reads : goal.returns-in-Err-clause-reads
+returns-in-Err-clause-reads g c behind =
+    subst (λ r. Reads g.I.Inputs.held g.I.Inputs.shaky g.I.Inputs.faults c.args.inputs.now c.read_whole.new.inputs (IsComeTo (g.I.Inputs.held c.args.inputs.now) ((parts.Netlist, c.args.name.now) ∷ behind)) (refusal_fault r)) (sym c.unread.ensures)
+    (whole_read g.I.Inputs.held g.I.Inputs.shaky g.I.Inputs.faults c.args.inputs.now c.read_whole.new.inputs _ (parts.Netlist, c.args.name.now) (first_file (g.I.Inputs.held c.args.inputs.now) (parts.Netlist, c.args.name.now) behind) (Err c.in-Err.refusal)
+    c.in-Err.ensures.fault c.in-Err.ensures.rose c.in-Err.ensures.never_falls c.in-Err.ensures.steady c.in-Err.ensures.held c.in-Err.ensures.shaky)
 
 pub returns-in-Err-clause-refused : goal.returns-in-Err-clause-refused
 returns-in-Err-clause-refused g c words =

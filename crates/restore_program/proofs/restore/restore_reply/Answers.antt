@@ -1,35 +1,31 @@
-use Rattle.std.proofs.Common.{List, ℕ, Bool, Option, subst}
+use Rattle.std.proofs.Common.{[], ◌∷◌, sym, subst}
 use Rattle.std.specs.Prelude.{IfSome}
-use Rattle.sr_outside.specs.Told.{Held}
+use Rattle.report.specs.declared.refusal.Part.TheVariants as parts
 use Rattle.restore_program.specs.Answer.{DumpAnswer}
-use Rattle.restore_program.specs.Faults.{IsNetlistFault, IsDumpFault, IsRestoreFault}
-use Rattle.restore_program.specs.ReplyAnswers.{OnFault, Replies}
-use Rattle.restore_program.proofs.Answering.{netlist_read, netlist_refused, faults_also, netlist_fault_of, dump_fault_of}
+use Rattle.restore_program.specs.Faults.{IsComeTo}
+use Rattle.restore_program.specs.ReplyAnswers.{Replies, fault_of}
+use Rattle.restore_program.specs.Requests.{files_of, restoration}
+use Rattle.restore_program.proofs.Answering.{netlist_read, netlist_refused}
+use Rattle.restore_program.proofs.Files.{behind_netlist}
+use Rattle.restore_program.proofs.Reading.{read_among, read_then}
 use Rattle.restore_program.proofs.restore.restore_reply.Goals as goal
 
 pub returns-in-Ok-clause-answer : goal.returns-in-Ok-clause-answer
 returns-in-Ok-clause-answer g c words =
-    let answer : IfSome (g.I.Inputs.held c.args.inputs.now) (λ held. Replies words (DumpAnswer held c.in-Ok.n c.args.dump.now c.args.all) c.dump_reply.result) =
-    subst (λ told. IfSome told (λ held. Replies words (DumpAnswer held c.in-Ok.n c.args.dump.now c.args.all) c.dump_reply.result)) c.in-Ok.ensures.held (c.dump_reply.ensures.answer words) in
-    netlist_read words c.args.netlist.now (λ held n. DumpAnswer held n c.args.dump.now c.args.all) c.dump_reply.result (g.I.Inputs.held c.args.inputs.now) c.in-Ok.n c.in-Ok.ensures.netlist answer
+    netlist_read words c.args.netlist.now (λ held n. DumpAnswer held n c.args.dump.now c.args.all) c.dump_reply.result (g.I.Inputs.held c.args.inputs.now) c.in-Ok.n c.in-Ok.ensures.netlist
+    (subst (λ told. IfSome told (λ held. Replies words (DumpAnswer held c.in-Ok.n c.args.dump.now c.args.all) c.dump_reply.result)) (c.in-Ok.ensures.reads []).same_held (c.dump_reply.ensures.answer words))
 
-pub returns-in-Ok-clause-fault_of : goal.returns-in-Ok-clause-fault_of
-returns-in-Ok-clause-fault_of g c =
-    let told : Option Held = g.I.Inputs.held c.args.inputs.now in
-    let shaky : Option (List ℕ → Bool) = g.I.Inputs.shaky c.args.inputs.now in
-    let fault : OnFault (IsDumpFault told shaky c.args.dump.now) c.dump_reply.result =
-    subst (λ t. OnFault (IsDumpFault t shaky c.args.dump.now) c.dump_reply.result) c.in-Ok.ensures.held
-    (subst (λ k. OnFault (IsDumpFault (g.I.Inputs.held c.read_netlist.new.inputs) k c.args.dump.now) c.dump_reply.result) c.in-Ok.ensures.shaky c.dump_reply.ensures.fault_of) in
-    faults_also (IsDumpFault told shaky c.args.dump.now) (IsRestoreFault told shaky c.args.netlist.now c.args.dump.now) c.dump_reply.result
-    (dump_fault_of told shaky c.args.netlist.now c.args.dump.now c.in-Ok.n c.in-Ok.ensures.netlist) fault
+pub returns-in-Ok-clause-reads : goal.returns-in-Ok-clause-reads
+returns-in-Ok-clause-reads g c =
+    read_then g.I.Inputs.held g.I.Inputs.shaky g.I.Inputs.faults c.args.inputs.now c.read_netlist.new.inputs c.dump_reply.new.inputs
+    (IsComeTo (g.I.Inputs.held c.args.inputs.now) (files_of (restoration c.args.netlist.now c.args.dump.now c.args.all))) (fault_of c.dump_reply.result) (c.in-Ok.ensures.reads ((parts.Dump, c.args.dump.now) ∷ []))
+    (read_among _ _ _ _ _ _ _ _
+    (λ file same. subst (IsComeTo (g.I.Inputs.held c.args.inputs.now) (files_of (restoration c.args.netlist.now c.args.dump.now c.args.all))) (sym same)
+    (behind_netlist (g.I.Inputs.held c.args.inputs.now) c.args.netlist.now c.in-Ok.n (parts.Dump, c.args.dump.now) [] c.in-Ok.ensures.netlist)) c.dump_reply.ensures.reads)
 
 pub returns-in-Err-clause-answer : goal.returns-in-Err-clause-answer
 returns-in-Err-clause-answer g c words =
     netlist_refused words c.args.netlist.now (λ held n. DumpAnswer held n c.args.dump.now c.args.all) c.in-Err.reply (g.I.Inputs.held c.args.inputs.now) (c.in-Err.ensures.refused words)
 
-pub returns-in-Err-clause-fault_of : goal.returns-in-Err-clause-fault_of
-returns-in-Err-clause-fault_of g c =
-    let told : Option Held = g.I.Inputs.held c.args.inputs.now in
-    let shaky : Option (List ℕ → Bool) = g.I.Inputs.shaky c.args.inputs.now in
-    faults_also (IsNetlistFault told shaky c.args.netlist.now) (IsRestoreFault told shaky c.args.netlist.now c.args.dump.now) c.in-Err.reply
-    (netlist_fault_of told shaky c.args.netlist.now c.args.dump.now) c.in-Err.ensures.fault_of
+pub returns-in-Err-clause-reads : goal.returns-in-Err-clause-reads
+returns-in-Err-clause-reads g c = c.in-Err.ensures.reads ((parts.Dump, c.args.dump.now) ∷ [])

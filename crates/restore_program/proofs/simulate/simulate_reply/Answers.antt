@@ -1,3 +1,5 @@
+use Rattle.std.proofs.Common.{[], sym, subst}
+use Rattle.restore_program.specs.Reads.{Reads}
 use Rattle.restore_program.specs.Tracing.{OnTrace}
 use Rattle.restore_program.proofs.Answering.{netlist_read, netlist_refused, told_or_not}
 use Rattle.restore_program.proofs.simulate.simulate_reply.Goals as goal
@@ -13,3 +15,9 @@ returns-in-Err-clause-answer g c words there =
 
 pub returns-in-Err-clause-ready : goal.returns-in-Err-clause-ready
 returns-in-Err-clause-ready g c words there = c.in-Err.ensures.ready words
+
+pub returns-in-Ok-clause-reads : goal.returns-in-Ok-clause-reads
+returns-in-Ok-clause-reads g c = subst (Reads g.I.Inputs.held g.I.Inputs.shaky g.I.Inputs.faults _ _ _) (sym c.traced_reply.ensures.no_fault) (c.in-Ok.ensures.reads [])
+
+pub returns-in-Err-clause-reads : goal.returns-in-Err-clause-reads
+returns-in-Err-clause-reads g c = c.in-Err.ensures.reads []

@@ -1,9 +1,9 @@
-use Rattle.std.proofs.Common.{ℕ, ◌≡◌, ◌<◌, ◌≤◌, ◌+◌, ◌*◌, ◌/◌, ◌%◌, min, ◌∙◌, length, sym, ap, subst, arith}
+use Rattle.std.proofs.Common.{ℕ, ◌≡◌, ◌<◌, ◌≤◌, ◌+◌, ◌*◌, ◌/◌, ◌%◌, min, ◌∙◌, None, length, sym, ap, subst, arith}
 use Rattle.dump_reader.specs.Grammar.{block_count}
 use Rattle.report.specs.Refusals.{many_cells_line}
 use Rattle.restore_program.specs.Tracing.{IsTraceText, OnTrace, many_cells, traced}
 use Rattle.restore_program.specs.declared.status.Status.TheVariants as statuses
-use Rattle.restore_program.specs.ReplyAnswers.{IsFault, Replies}
+use Rattle.restore_program.specs.ReplyAnswers.{Replies, refusal_fault}
 use Rattle.restore_program.specs.Reply.{IsReady}
 use Rattle.restore_program.specs.declared.reply.Reply.TheVariants as replies
 use Rattle.restore_program.proofs.Answering.{trace_no_fault, trace_ready, trace_refused}
@@ -25,7 +25,7 @@ returns-in-Err-clause-ready c words there =
     subst (λ r. IsReady words (replies.Refused r)) (sym c.list_refusal.ensures) (trace_ready words c.args.place c.args.n.now c.args.list.now c.in-Err.refusal there c.in-Err.ensures.refusal)
 
 pub returns-in-Err-clause-no_fault : goal.returns-in-Err-clause-no_fault
-returns-in-Err-clause-no_fault c = subst (λ r. ¬ IsFault (replies.Refused r)) (sym c.list_refusal.ensures) (trace_no_fault c.in-Err.refusal c.args.place)
+returns-in-Err-clause-no_fault c = subst (λ r. refusal_fault r ≡ None) (sym c.list_refusal.ensures) (trace_no_fault c.in-Err.refusal c.args.place)
 
 pub returns-then-product-gt-MOST_BLOCKS-clause-answer : goal.returns-then-product-gt-MOST_BLOCKS-clause-answer
 returns-then-product-gt-MOST_BLOCKS-clause-answer c =

@@ -1,6 +1,7 @@
-use Rattle.std.proofs.Common.{map}
+use Rattle.std.proofs.Common.{map, sym, subst}
 use Rattle.std.specs.String.{string_bytes}
-use Rattle.restore_program.proofs.Prepared.{prepared_answer, prepared_status}
+use Rattle.restore_program.specs.Reads.{Reads}
+use Rattle.restore_program.proofs.Prepared.{prepared_answer, prepared_fault, prepared_status}
 use Rattle.restore_program.proofs.top.prepared_reply.Goals as goal
 
 pub returns-clause-answer : goal.returns-clause-answer
@@ -9,3 +10,7 @@ returns-clause-answer g c =
 
 pub returns-clause-refused : goal.returns-clause-refused
 returns-clause-refused g c refused = prepared_status c.reply_to-reply.result c.prepare.result.reply c.prepare.ensures.same (c.reply_to-reply.ensures.refused refused)
+
+pub returns-clause-reads : goal.returns-clause-reads
+returns-clause-reads g c =
+    subst (Reads g.I.Inputs.held g.I.Inputs.shaky g.I.Inputs.faults _ _ _) (sym (prepared_fault c.reply_to-reply.result c.prepare.result.reply c.prepare.ensures.same)) c.reply_to-reply.ensures.reads

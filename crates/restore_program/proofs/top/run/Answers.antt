@@ -19,7 +19,7 @@ returns-in-Ok-clause-answer g c _ =
       text_of words c.prepared_reply-reply.result.reply,
       c.in-Ok.ensures.appended,
       subst (Says words told (g.I.Inputs.shaky c.args.inputs.now) (text_of words c.prepared_reply-reply.result.reply)) (sym c.reply_status-status.ensures)
-          (says words told (g.I.Inputs.shaky c.args.inputs.now) c.prepared_reply-reply.result.reply c.prepared_reply-reply.ensures.answer c.prepared_reply-reply.ensures.fault_of),
+          (says words told (g.I.Inputs.shaky c.args.inputs.now) c.prepared_reply-reply.result.reply c.prepared_reply-reply.ensures.answer c.prepared_reply-reply.ensures.reads.cause),
     )
 
 pub returns-in-Ok-clause-sound : goal.returns-in-Ok-clause-sound
@@ -72,7 +72,7 @@ returns-clause-part g c _ = (
   status_of c.prepared_reply-reply.result.reply,
   c.in-Err.ensures.part,
   c.in-Err.ensures.lacks,
-  says (map string_bytes c.args.words.now) (g.I.Inputs.held c.args.inputs.now) (g.I.Inputs.shaky c.args.inputs.now) c.prepared_reply-reply.result.reply c.prepared_reply-reply.ensures.answer c.prepared_reply-reply.ensures.fault_of,
+  says (map string_bytes c.args.words.now) (g.I.Inputs.held c.args.inputs.now) (g.I.Inputs.shaky c.args.inputs.now) c.prepared_reply-reply.result.reply c.prepared_reply-reply.ensures.answer c.prepared_reply-reply.ensures.reads.cause,
 )
 
 pub returns-clause-refused : goal.returns-clause-refused
