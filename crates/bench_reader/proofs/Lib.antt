@@ -1,4 +1,5 @@
 pub mod BenchLaws
+pub mod FormOrNone
 pub mod Forms
 pub mod Lines
 pub mod Pins
@@ -7,6 +8,7 @@ pub mod PrintedLines
 pub mod PrintedStatements
 pub mod Printing
 pub mod ReadBack
+pub mod ReadOrRefused
 pub mod SignalNames
 pub mod Statements
 pub mod Tokens

@@ -12,6 +12,7 @@ use Rattle.sr_model.specs.declared.statements.Numbered.{Numbered}
 use Rattle.sr_model.specs.Declaration.{Declaration, declared, declarations_of, declaration_of}
 use Rattle.netlist.specs.Numbering.{IsSignalName, IsStatement}
 use Rattle.bench_reader.specs.Grammar.{Token, Name, Open, Close, Comma, Equals, is_mark, mark_of, begins_with_name, longer_name, with_byte, tokens, pin_tokens, Form, InputForm, OutputForm, DriverForm, HasTokens, is_short, signal_names, HasRightPins, Declares, States, text_lines, Read, Spells}
+use Rattle.bench_reader.specs.Laws.{SpellsStatements}
 use Rattle.bench_reader.proofs.Tokens.{class_of, a_blank, a_mark, a_name, another}
 
 -- each name among the tokens may stand as a name
@@ -117,8 +118,9 @@ declared-of : (numbered : List Numbered) → map (λ (x : ℕ × Declaration). x
 declared-of [] = refl
 declared-of (s ∷ numbered) = ap (λ (ds : List Declaration). declaration_of s.statement ∷ ds) (declared-of numbered)
 
+pub spells_statements : SpellsStatements
+spells_statements text stated spells = All-map IsStatement (λ (x : ℕ × Declaration). x.1) stated (read_are 1 (text_lines text) stated spells)
+
 -- the statements of a text that was read
 pub spelled_are : (text : List ℕ) (s : WithRoom Numbered) → Spells text (declarations_of s) → All IsStatement (declared s)
-spelled_are text s spells =
-    subst (λ (ds : List Declaration). All IsStatement ds) (declared-of s.items)
-    (All-map IsStatement (λ (x : ℕ × Declaration). x.1) (declarations_of s) (read_are 1 (text_lines text) (declarations_of s) spells))
+spelled_are text s spells = subst (λ (ds : List Declaration). All IsStatement ds) (declared-of s.items) (spells_statements text (declarations_of s) spells)

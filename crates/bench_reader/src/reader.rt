@@ -6,7 +6,7 @@ ghost use Rattle.sr_model.specs.Room.{texts};
 ghost use Rattle.netlist.specs.Numbering.{IsStatement};
 ghost use Rattle.bench_reader.specs.Grammar.{Spells, States, HasRightPins, Declares, is_short, signal_names};
 ghost use Rattle.bench_reader.specs.Refusal.{IsRefusal, IsLineRefusal, IsFormRefusal};
-ghost use Rattle.bench_reader.specs.Laws.{HasOneReading, IsRefusedOnce, IsReadOrRefused};
+ghost use Rattle.bench_reader.specs.Laws.{HasOneReading, IsRefusedOnce, ReadTextsAreNotRefused, IsReadOrRefused, SpellsStatements};
 ghost use Rattle.bench_reader.specs.Found.{form_with};
 
 use crate::form::{Form, read_form};
@@ -15,27 +15,21 @@ use bstr::ByteSlice;
 use sr_model::{Bytes, Names, NoMemory, Numbered, Sequence, Statement, Statements};
 use sr_text::cut;
 use std::alloc::{AllocError, Global};
-use thiserror::Error;
 
 const MAX_NAME_BYTES: usize = 255;
 
 /// Why a netlist's text is refused: its first line that is not in the grammar. Lines count from 1.
-#[derive(Clone, Copy, Debug, PartialEq, Eq, Error)]
+#[derive(Clone, Copy, Debug, PartialEq, Eq)]
 pub enum BenchRefusal {
     /// It has none of the three forms.
-    #[error("line {line}: syntax")]
     Syntax { line: u64 },
     /// A signal's name has more than 255 bytes.
-    #[error("line {line}: name too long")]
     NameLong { line: u64 },
     /// Its word is that of no kind.
-    #[error("line {line}: unknown kind")]
     UnknownKind { line: u64 },
     /// Its kind may not have so many pins.
-    #[error("line {line}: wrong number of pins")]
     WrongPins { line: u64 },
     /// Memory was refused.
-    #[error("no memory")]
     NoMemory,
 }
 
@@ -76,11 +70,13 @@ pub fn read_bench(alloc: Global, bytes: &[u8]) -> Result<Statements, BenchRefusa
     Ok(statements)
 }
 
-/// Each text has one reading, or is refused in one way, and never both.
+/// Each text has one reading, or is refused in one way, and never both. What it states are statements that `build` takes.
 pub fn bench_laws()
     ensures one_reading { HasOneReading }
     ensures one_refusal { IsRefusedOnce }
-    ensures not_both { IsReadOrRefused }
+    ensures not_both { ReadTextsAreNotRefused }
+    ensures read_or_refused { IsReadOrRefused }
+    ensures statements { SpellsStatements }
 {}
 
 /// The statement of a cut line that is not empty. The pins are room to read into.

@@ -1,4 +1,4 @@
--- There is an execution with the stimulus's bits on the inputs and 0 on each flip-flop in cycle 0.
+-- There is an execution with given bits on the inputs and 0 on each flip-flop in cycle 0.
 use Rattle.std.proofs.Common.{ℕ, suc, zero, ◌≡◌, ◌<◌, ◌≤◌, ◌+◌, ◌*◌, Bool, true, false, cond, eqb, List, [], ◌∷◌, ◌++◌, length, map, get_or, Some, arith, inl, inr, refl, sym, ap, subst, ◌∙◌}
 use Rattle.std.specs.List.{All, AllPairs, Contains}
 use Rattle.std.proofs.lemmas.Bool.{cases_Bool, cond-true, cond-false, eq-eqb, ne_eqb, true≢false}
@@ -10,8 +10,6 @@ use Rattle.sr_model.specs.declared.cells.Sig.{Sig}
 use Rattle.sr_model.specs.declared.cells.Place.{Place}
 use Rattle.sr_model.specs.Gate.{value}
 use Rattle.sr_model.specs.Netlist.{Driver, Input, Driven, Valuation, Instance, IsRow, cell_at, delay, instance_at}
-use Rattle.sr_model.specs.Closure.{passing}
-use Rattle.sr_model.proofs.ClosureLaws.{sound}
 use Rattle.sr_model.proofs.Instances.{Stands, stands}
 use Rattle.netlist.specs.Circuit.{Circuit, IsCircuit, unrolled_over}
 use Rattle.netlist.specs.Wiring.{driver_at, pins_of, is_gate, is_flip_flop, signals_below}
@@ -20,7 +18,7 @@ use Rattle.netlist.proofs.Ranking.{ranks_exist}
 use Rattle.dump_reader.specs.Recording.{IsCount}
 use Rattle.unroll.proofs.TaskCells.{delay-cases, driven-within}
 use Rattle.cycle_sim.specs.BitTable.{BitTable, bit_in}
-use Rattle.cycle_sim.specs.Simulation.{IsSimulated, AgreeOnCells, HasWhatFollows, bits_of}
+use Rattle.cycle_sim.specs.Simulation.{IsSimulated, AgreeOnCells, bits_of}
 use Rattle.cycle_sim.proofs.GateRows.{its-pins}
 use Rattle.cycle_sim.proofs.PinOrder.{rank-below}
 use Rattle.cycle_sim.proofs.FrameSteps.{same-pins, map-twice, input-within}
@@ -35,11 +33,11 @@ rank-le [] s = omega arith
 rank-le (r ∷ rs) zero = omega arith
 rank-le (r ∷ rs) (suc s) = let rest : get_or rs s 0 ≤ total rs = rank-le rs s in omega (arith, rest)
 
-module _ (c : Circuit) (is : IsCircuit c) (stimulus : BitTable) (ranks : List ℕ) (ranked : IsRank c.drivers ranks) where
-  -- the stimulus's bit for an input, by its first place among the inputs that are left
+module _ (c : Circuit) (is : IsCircuit c) (cycles : ℕ) (given : ℕ → ℕ → Bool) (ranks : List ℕ) (ranked : IsRank c.drivers ranks) where
+  -- the bit given for an input, by its first place among the inputs that are left
   abbrev drawn : List Sig → ℕ → ℕ → ℕ → Bool
   drawn [] place cycle s = false
-  drawn (x ∷ xs) place cycle s = cond (eqb x.0 s) (bit_in stimulus cycle place) (drawn xs (place + 1) cycle s)
+  drawn (x ∷ xs) place cycle s = cond (eqb x.0 s) (given cycle place) (drawn xs (place + 1) cycle s)
 
   -- a flip-flop's bit, by the bits of the cycle before
   abbrev delayed : (ℕ → ℕ → Bool) → ℕ → List Sig → Bool
@@ -123,17 +121,17 @@ module _ (c : Circuit) (is : IsCircuit c) (stimulus : BitTable) (ranks : List �
       one : (n : ℕ) → n + 1 ≡ suc n
       one n = omega arith
 
-  input-drawn : (xs : List Sig) (base cycle j : ℕ) (d : Sig) → AllPairs (λ a b. a ≡ b → ⊥) xs → j < length xs → drawn xs base cycle (get_or xs j d).0 ≡ bit_in stimulus cycle (base + j)
+  input-drawn : (xs : List Sig) (base cycle j : ℕ) (d : Sig) → AllPairs (λ a b. a ≡ b → ⊥) xs → j < length xs → drawn xs base cycle (get_or xs j d).0 ≡ given cycle (base + j)
   input-drawn [] base cycle j d once h = absurd (omega (arith, h))
   input-drawn (x ∷ xs) base cycle zero d once h =
-      cond-true (eqb x.0 x.0) (bit_in stimulus cycle base) (drawn xs (base + 1) cycle x.0) (eq-eqb x.0 x.0 refl) ∙ ap (bit_in stimulus cycle) (none base)
+      cond-true (eqb x.0 x.0) (given cycle base) (drawn xs (base + 1) cycle x.0) (eq-eqb x.0 x.0 refl) ∙ ap (given cycle) (none base)
     where
       none : (n : ℕ) → n ≡ n + 0
       none n = omega arith
   input-drawn (x ∷ xs) base cycle (suc j) d once h =
-      cond-false (eqb x.0 (get_or xs j d).0) (bit_in stimulus cycle base) (drawn xs (base + 1) cycle (get_or xs j d).0)
+      cond-false (eqb x.0 (get_or xs j d).0) (given cycle base) (drawn xs (base + 1) cycle (get_or xs j d).0)
       (ne_eqb x.0 (get_or xs j d).0 (λ e. once 0 (suc j) d (omega arith) h (ap (λ n. record { 0 = n }) e)))
-      ∙ input-drawn xs (base + 1) cycle j d (λ k l e lower within. once (suc k) (suc l) e (omega (arith, lower)) (omega (arith, within))) (omega (arith, h)) ∙ ap (bit_in stimulus cycle) (shift base j)
+      ∙ input-drawn xs (base + 1) cycle j d (λ k l e lower within. once (suc k) (suc l) e (omega (arith, lower)) (omega (arith, within))) (omega (arith, h)) ∙ ap (given cycle) (shift base j)
     where
       shift : (m n : ℕ) → m + 1 + n ≡ m + suc n
       shift m n = omega arith
@@ -166,16 +164,16 @@ module _ (c : Circuit) (is : IsCircuit c) (stimulus : BitTable) (ranks : List �
       dff Dff ps e = refl
       dff _ ps e = cc
 
-  pub found-simulated : IsSimulated c stimulus found
+  pub found-simulated : IsSimulated c cycles given found
   found-simulated = record {
     execution = λ p i at.
-        let st : Stands stimulus.count (driver_at c.drivers p.target.0) p i = stands (unrolled_over c stimulus.count) p i at in
+        let st : Stands cycles (driver_at c.drivers p.target.0) p i = stands (unrolled_over c cycles) p i at in
         subst (λ (j : Instance). IsRow j found) (sym st.is) (row p.cycle p.target st.kind st.pins st.driver);
     inputs = λ cycle j early within.
         let s : Sig = get_or c.inputs j (record { 0 = 0 }) in
         let input : driver_at c.drivers s.0 ≡ Input = ((is.inputs s).0 (Contains-get_or c.inputs j (record { 0 = 0 }) within)).1 in
         last-step cycle s ∙ ap (step (bit (cycle * (total ranks + 1) + get_or ranks s.0 0)) cycle s.0) input ∙ input-drawn c.inputs 0 cycle j (record { 0 = 0 }) is.inputs_once within
-        ∙ ap (bit_in stimulus cycle) (none j);
+        ∙ ap (given cycle) (none j);
     start = λ s flip_flop. last-step 0 s ∙ starts s (driver_at c.drivers s.0) flip_flop;
   }
     where
@@ -187,10 +185,10 @@ module _ (c : Circuit) (is : IsCircuit c) (stimulus : BitTable) (ranks : List �
       starts s (Driven kind pins) e = cond-true (is_flip_flop (Driven kind pins)) (delayed (bit (0 * (total ranks + 1) + get_or ranks s.0 0)) 0 pins) _ e
 
 -- a valuation that agrees with a simulated one on the cells of the netlist is one, too
-module _ (c : Circuit) (is : IsCircuit c) (stimulus : BitTable) (some : 0 < stimulus.count) (v w : Valuation) (sim : IsSimulated c stimulus v) (agree : AgreeOnCells c stimulus.count w v) where
-  row-agrees : (p : Place) (i : Instance) → instance_at (unrolled_over c stimulus.count) p ≡ Some i → IsRow i w
+module _ (c : Circuit) (is : IsCircuit c) (cycles : ℕ) (given : ℕ → ℕ → Bool) (some : 0 < cycles) (v w : Valuation) (sim : IsSimulated c cycles given v) (agree : AgreeOnCells c cycles w v) where
+  row-agrees : (p : Place) (i : Instance) → instance_at (unrolled_over c cycles) p ≡ Some i → IsRow i w
   row-agrees p i at =
-      let st : Stands stimulus.count (driver_at c.drivers p.target.0) p i = stands (unrolled_over c stimulus.count) p i at in
+      let st : Stands cycles (driver_at c.drivers p.target.0) p i = stands (unrolled_over c cycles) p i at in
       let within : p.target.0 < length c.drivers = driven-within c.drivers p.target.0 st.kind st.pins st.driver in
       subst (λ (j : Instance). IsRow j w) (sym st.is)
       (agree (cell_at (p.cycle + delay st.kind) p.target) within st.in_time
@@ -203,7 +201,7 @@ module _ (c : Circuit) (is : IsCircuit c) (stimulus : BitTable) (some : 0 < stim
       map-twice2 f g cycle pins same =
           map-twice g (cell_at cycle) pins ∙ same-pins (λ q. g (cell_at cycle q)) (λ q. f (cell_at cycle q)) pins same ∙ sym (map-twice f (cell_at cycle) pins)
 
-  pub agrees-simulated : IsSimulated c stimulus w
+  pub agrees-simulated : IsSimulated c cycles given w
   agrees-simulated = record {
     execution = row-agrees;
     inputs = λ cycle j early within.
@@ -226,30 +224,20 @@ pub signals-more : (n : ℕ) → signals_below (n + 1) ≡ signals_below n ++ re
 signals-more n = map-range_with_len_more (λ s. record { 0 = s }) 0 n n (omega arith)
 
 -- the bits of all signals are those of each simulated execution
-module _ (c : Circuit) (is : IsCircuit c) (stimulus t : BitTable) (some : 0 < stimulus.count) (count : t.count ≡ stimulus.count) (sigs : List Sig) (same : sigs ≡ signals_below (length c.drivers))
-    (bits : (v : Valuation) → IsSimulated c stimulus v → (cycle j : ℕ) → cycle < t.count → j < length sigs → bit_in t cycle j ≡ v (cell_at cycle (get_or sigs j (record { 0 = 0 })))) where
-  pub bits-agree : (v : Valuation) → IsSimulated c stimulus v → AgreeOnCells c stimulus.count (bits_of t) v
+module _ (c : Circuit) (is : IsCircuit c) (cycles : ℕ) (given : ℕ → ℕ → Bool) (t : BitTable) (some : 0 < cycles) (count : t.count ≡ cycles) (sigs : List Sig) (same : sigs ≡ signals_below (length c.drivers))
+    (bits : (v : Valuation) → IsSimulated c cycles given v → (cycle j : ℕ) → cycle < t.count → j < length sigs → bit_in t cycle j ≡ v (cell_at cycle (get_or sigs j (record { 0 = 0 })))) where
+  pub bits-agree : (v : Valuation) → IsSimulated c cycles given v → AgreeOnCells c cycles (bits_of t) v
   bits-agree v sim cell within early =
       bits v sim cell.cycle cell.sig.0 (subst (λ n. cell.cycle < n) (sym count) early) (subst (λ n. cell.sig.0 < n) (sym (signals-size (length c.drivers) sigs same)) within)
       ∙ ap (λ s. v (cell_at cell.cycle s)) (all-signals (length c.drivers) cell.sig.0 sigs (record { 0 = 0 }) same within)
 
-  pub bits-simulated : IsSimulated c stimulus (bits_of t)
+  pub bits-simulated : IsSimulated c cycles given (bits_of t)
   bits-simulated =
       let ranks : (rs : List ℕ) × IsRank c.drivers rs = ranks_exist c.drivers is.no_loop in
-      let v : Valuation = found c is stimulus ranks.0 ranks.1 in
-      let sim : IsSimulated c stimulus v = found-simulated c is stimulus ranks.0 ranks.1 in
-      agrees-simulated c is stimulus some v (bits_of t) sim (bits-agree v sim)
+      let v : Valuation = found c is cycles given ranks.0 ranks.1 in
+      let sim : IsSimulated c cycles given v = found-simulated c is cycles given ranks.0 ranks.1 in
+      agrees-simulated c is cycles given some v (bits_of t) sim (bits-agree v sim)
 
--- a stimulus has a cycle
-pub some-cycle : (t stimulus : BitTable) → t.count ≡ stimulus.count → IsCount t.count → 0 < stimulus.count
-some-cycle t stimulus same count = omega (arith, count.0, same)
-
--- what is known of an execution and what follows is so
-pub follows : (c : Circuit) (stimulus : BitTable) (v : Valuation) → IsSimulated c stimulus v → HasWhatFollows c stimulus.count v
-follows c stimulus v sim base within = sound (unrolled_over c stimulus.count) (passing base) v sim.execution within
-
--- there is a simulated execution
-pub exists : (c : Circuit) → IsCircuit c → (stimulus : BitTable) → (v : Valuation) × IsSimulated c stimulus v
-exists c is stimulus =
-    let ranks : (rs : List ℕ) × IsRank c.drivers rs = ranks_exist c.drivers is.no_loop in
-    (found c is stimulus ranks.0 ranks.1, found-simulated c is stimulus ranks.0 ranks.1)
+-- a count has a cycle
+pub some-cycle : (count cycles : ℕ) → count ≡ cycles → IsCount count → 0 < cycles
+some-cycle n cycles same count = omega (arith, count.0, same)

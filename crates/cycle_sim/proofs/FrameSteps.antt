@@ -84,20 +84,20 @@ pub map-twice : {X Y Z : Type 0} (f : Y → Z) (g : X → Y) (xs : List X) → m
 map-twice f g [] = refl
 map-twice f g (x ∷ xs) = ap (λ ys. f (g x) ∷ ys) (map-twice f g xs)
 
-module _ (c : Circuit) (stimulus : BitTable) (v : Valuation) (sim : IsSimulated c stimulus v) (cycle : ℕ) (s : Sig) where
-  row : (k : Kind) (pins : List Sig) → driver_at c.drivers s.0 ≡ Driven k pins → cycle + delay k < stimulus.count → v (cell_at (cycle + delay k) s) ≡ value k (map (λ p. v (cell_at cycle p)) pins)
+module _ (c : Circuit) (cycles : ℕ) (given : ℕ → ℕ → Bool) (v : Valuation) (sim : IsSimulated c cycles given v) (cycle : ℕ) (s : Sig) where
+  row : (k : Kind) (pins : List Sig) → driver_at c.drivers s.0 ≡ Driven k pins → cycle + delay k < cycles → v (cell_at (cycle + delay k) s) ≡ value k (map (λ p. v (cell_at cycle p)) pins)
   row k pins driver early =
       let p : Place = record { cycle = cycle; target = s } in
-      sim.execution p (instance_of k pins p) (stands-at (unrolled_over c stimulus.count) p k pins driver early) ∙ ap (value k) (map-twice v (cell_at cycle) pins)
+      sim.execution p (instance_of k pins p) (stands-at (unrolled_over c cycles) p k pins driver early) ∙ ap (value k) (map-twice v (cell_at cycle) pins)
 
-  by-driver : (d : Driver) → driver_at c.drivers s.0 ≡ d → is_gate d ≡ true → cycle < stimulus.count → v (cell_at cycle s) ≡ value_by d (λ p. v (cell_at cycle p))
+  by-driver : (d : Driver) → driver_at c.drivers s.0 ≡ d → is_gate d ≡ true → cycle < cycles → v (cell_at cycle s) ≡ value_by d (λ p. v (cell_at cycle p))
   by-driver Input at gate early = cc
   by-driver (Driven k pins) at gate early =
       elim (delay-cases k pins) [
         | inl (flip_flop, one) ↦ absurd (not-both k pins gate flip_flop)
         | inr (other, none) ↦
             let now : cycle + delay k ≡ cycle = omega (arith, none) in
-            ap (λ n. v (cell_at n s)) (sym now) ∙ row k pins at (subst (λ n. n < stimulus.count) (sym now) early)
+            ap (λ n. v (cell_at n s)) (sym now) ∙ row k pins at (subst (λ n. n < cycles) (sym now) early)
       ]
     where
       not-both : (k : Kind) (pins : List Sig) → is_gate (Driven k pins) ≡ true → is_flip_flop (Driven k pins) ≡ true → ⊥
@@ -105,11 +105,11 @@ module _ (c : Circuit) (stimulus : BitTable) (v : Valuation) (sim : IsSimulated 
       not-both _ pins gate e = cc
 
   -- a gate's bit is what it gives
-  pub gate-value : is_gate (driver_at c.drivers s.0) ≡ true → cycle < stimulus.count → v (cell_at cycle s) ≡ value_by (driver_at c.drivers s.0) (λ p. v (cell_at cycle p))
+  pub gate-value : is_gate (driver_at c.drivers s.0) ≡ true → cycle < cycles → v (cell_at cycle s) ≡ value_by (driver_at c.drivers s.0) (λ p. v (cell_at cycle p))
   gate-value gate early = by-driver (driver_at c.drivers s.0) refl gate early
 
   -- a flip-flop's next bit is that of its pin
-  pub flip_flop-value : is_flip_flop (driver_at c.drivers s.0) ≡ true → cycle + 1 < stimulus.count → (pins : List Sig) → pins ≡ pins_of (driver_at c.drivers s.0) → 0 < length pins
+  pub flip_flop-value : is_flip_flop (driver_at c.drivers s.0) ≡ true → cycle + 1 < cycles → (pins : List Sig) → pins ≡ pins_of (driver_at c.drivers s.0) → 0 < length pins
       → v (cell_at (cycle + 1) s) ≡ v (cell_at cycle (get_or pins 0 (record { 0 = 0 })))
   flip_flop-value is early pins pins_are some = at (driver_at c.drivers s.0) refl is pins pins_are some
     where
@@ -130,12 +130,12 @@ value-same Input f g same = refl
 value-same (Driven k pins) f g same = ap (value k) (same-pins f g pins same)
 
 -- the next gate in order: its pins are right, and so is what it gives
-pub gate-right : (c : Circuit) (is : IsCircuit c) (stimulus : BitTable) (v : Valuation) → IsSimulated c stimulus v → (cycle : ℕ) → cycle < stimulus.count → (order : List Sig) → IsOrder c.drivers order
+pub gate-right : (c : Circuit) (is : IsCircuit c) (cycles : ℕ) (given : ℕ → ℕ → Bool) (v : Valuation) → IsSimulated c cycles given v → (cycle : ℕ) → cycle < cycles → (order : List Sig) → IsOrder c.drivers order
     → (i : ℕ) (d : Sig) → i < length order → (frame : List Bool)
     → ((s : Sig) → s.0 < length c.drivers → is_gate (driver_at c.drivers s.0) ≡ false → IsRight v cycle frame s) → ((k : ℕ) → k < i → IsRight v cycle frame (get_or order k d))
     → is_gate (driver_at c.drivers (get_or order i d).0) ≡ true → value_by (driver_at c.drivers (get_or order i d).0) (in_frame frame) ≡ v (cell_at cycle (get_or order i d))
-gate-right c is stimulus v sim cycle early order ordered i d within frame others earlier gate =
-    value-same (driver_at c.drivers (get_or order i d).0) (in_frame frame) (λ p. v (cell_at cycle p)) (λ p h. pin-right p h) ∙ sym (gate-value c stimulus v sim cycle (get_or order i d) gate early)
+gate-right c is cycles given v sim cycle early order ordered i d within frame others earlier gate =
+    value-same (driver_at c.drivers (get_or order i d).0) (in_frame frame) (λ p. v (cell_at cycle p)) (λ p h. pin-right p h) ∙ sym (gate-value c cycles given v sim cycle (get_or order i d) gate early)
   where
     pin-right : (p : Sig) → Contains (pins_of (driver_at c.drivers (get_or order i d).0)) p → in_frame frame p ≡ v (cell_at cycle p)
     pin-right p h =
@@ -189,9 +189,9 @@ not-gate c is s within other = at (driver_at c.drivers s.0) refl other
     at (Driven _ pins) e other = cc
 
 -- in cycle 0 each flip-flop is 0
-pub state-start : (c : Circuit) (stimulus : BitTable) (v : Valuation) → IsSimulated c stimulus v → (state : List Bool) → ((i : ℕ) → get_or state i false ≡ false) → (j : ℕ) → j < length (flip_flops c.drivers)
+pub state-start : (c : Circuit) (cycles : ℕ) (given : ℕ → ℕ → Bool) (v : Valuation) → IsSimulated c cycles given v → (state : List Bool) → ((i : ℕ) → get_or state i false ≡ false) → (j : ℕ) → j < length (flip_flops c.drivers)
     → get_or state j false ≡ v (cell_at 0 (get_or (flip_flops c.drivers) j (record { 0 = 0 })))
-state-start c stimulus v sim state zero j h =
+state-start c cycles given v sim state zero j h =
     zero j ∙ sym (sim.start (get_or (flip_flops c.drivers) j (record { 0 = 0 })) (flip_flop-within c.drivers (flip_flops c.drivers) refl j (record { 0 = 0 }) h).1)
 
 -- one row more of the kept bits

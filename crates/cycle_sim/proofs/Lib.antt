@@ -4,6 +4,7 @@ pub mod GateRows
 pub mod PinOrder
 pub mod FrameSteps
 pub mod Existing
+pub mod lemmas
 pub mod Tracing
 pub mod LoadSteps
 pub mod LoadNames

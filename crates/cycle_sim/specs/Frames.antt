@@ -7,7 +7,7 @@ use Rattle.sr_model.specs.Netlist.{Driver, Input, Driven, Valuation, cell_at}
 use Rattle.netlist.specs.Circuit.{Circuit}
 use Rattle.netlist.specs.Wiring.{driver_at, is_gate, flip_flops}
 use Rattle.netlist.specs.Ranks.{IsOrder}
-use Rattle.cycle_sim.specs.BitTable.{BitTable}
+use Rattle.cycle_sim.specs.BitTable.{BitTable, bit_in}
 use Rattle.cycle_sim.specs.Simulation.{IsSimulated}
 use Rattle.cycle_sim.specs.declared.gates.Gate.{Gate}
 
@@ -17,19 +17,19 @@ IsRight v cycle frame s = slice_index_or frame s.0 false ≡ v (cell_at cycle s)
 
 -- and so of all signals of a kind, in the simulated execution
 abbrev pub AreRight : Circuit → BitTable → ℕ → List Bool → (Sig → Type 0) → Type 0
-AreRight c stimulus cycle frame Among = (v : Valuation) → IsSimulated c stimulus v → (s : Sig) → s.0 < length c.drivers → Among s → IsRight v cycle frame s
+AreRight c stimulus cycle frame Among = (v : Valuation) → IsSimulated c stimulus.count (bit_in stimulus) v → (s : Sig) → s.0 < length c.drivers → Among s → IsRight v cycle frame s
 
 abbrev pub AllRight : Circuit → BitTable → ℕ → List Bool → Type 0
-AllRight c stimulus cycle frame = (v : Valuation) → IsSimulated c stimulus v → (s : Sig) → s.0 < length c.drivers → IsRight v cycle frame s
+AllRight c stimulus cycle frame = (v : Valuation) → IsSimulated c stimulus.count (bit_in stimulus) v → (s : Sig) → s.0 < length c.drivers → IsRight v cycle frame s
 
 -- what is right in the one frame is right in the other
 abbrev pub StayRight : Circuit → BitTable → ℕ → List Bool → List Bool → Type 0
-StayRight c stimulus cycle before after = (v : Valuation) → IsSimulated c stimulus v → (s : Sig) → IsRight v cycle before s → IsRight v cycle after s
+StayRight c stimulus cycle before after = (v : Valuation) → IsSimulated c stimulus.count (bit_in stimulus) v → (s : Sig) → IsRight v cycle before s → IsRight v cycle after s
 
 -- the bits that flip-flops have in the cycle, in their order
 abbrev pub IsState : Circuit → BitTable → ℕ → List Bool → Type 0
 IsState c stimulus cycle state =
-    (v : Valuation) → IsSimulated c stimulus v → (j : ℕ) → j < length (flip_flops c.drivers)
+    (v : Valuation) → IsSimulated c stimulus.count (bit_in stimulus) v → (j : ℕ) → j < length (flip_flops c.drivers)
     → slice_index_or state j false ≡ v (cell_at cycle (slice_index_or (flip_flops c.drivers) j (record { 0 = 0 })))
 
 -- which of the four rows of two bits

@@ -11,11 +11,16 @@ use Rattle.netlist.specs.Circuit.{Circuit, unrolled_over}
 use Rattle.netlist.specs.Wiring.{driver_at, is_flip_flop}
 use Rattle.cycle_sim.specs.BitTable.{BitTable, bit_in}
 
--- An execution over the cycles of the stimulus, with its bits on the inputs and 0 on each flip-flop in cycle 0.
-pub record IsSimulated (c : Circuit) (stimulus : BitTable) (v : Valuation) : Type 0 where
-  pub execution : IsExecution (unrolled_over c stimulus.count) v
-  pub inputs : (cycle j : ℕ) → cycle < stimulus.count → j < length c.inputs → v (cell_at cycle (slice_index_or c.inputs j (record { 0 = 0 }))) ≡ bit_in stimulus cycle j
+-- An execution over so many cycles, with the given bits on the inputs and 0 on each flip-flop in cycle 0. A bit is given by its cycle and by the place of its
+-- input among the inputs.
+pub record IsSimulated (c : Circuit) (cycles : ℕ) (given : ℕ → ℕ → Bool) (v : Valuation) : Type 0 where
+  pub execution : IsExecution (unrolled_over c cycles) v
+  pub inputs : (cycle j : ℕ) → cycle < cycles → j < length c.inputs → v (cell_at cycle (slice_index_or c.inputs j (record { 0 = 0 }))) ≡ given cycle j
   pub start : (s : Sig) → is_flip_flop (driver_at c.drivers s.0) ≡ true → v (cell_at 0 s) ≡ false
+
+-- the same bits for so many inputs over so many cycles
+abbrev pub AgreeOnInputs : ℕ → ℕ → (ℕ → ℕ → Bool) → (ℕ → ℕ → Bool) → Type 0
+AgreeOnInputs inputs cycles given others = (cycle input : ℕ) → cycle < cycles → input < inputs → given cycle input ≡ others cycle input
 
 -- the bit of each cell, where the rows are cycles and the columns signals
 abbrev pub bits_of : BitTable → Valuation

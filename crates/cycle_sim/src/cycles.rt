@@ -31,7 +31,7 @@ pub(crate) fn simulated_bits(
     ensures width { IfOk result (λ t. t.width ≡ length kept.now) }
     ensures count { IfOk result (λ t. t.count ≡ s.now.count) }
     ensures circuit { IfOk result (λ t. IsCircuit n.now × IsCount t.count) }
-    ensures bits { IfOk result (λ t. (v : Valuation) → IsSimulated n.now s.now v → (cycle j : ℕ) → cycle < t.count → j < length kept.now
+    ensures bits { IfOk result (λ t. (v : Valuation) → IsSimulated n.now s.now.count (bit_in s.now) v → (cycle j : ℕ) → cycle < t.count → j < length kept.now
         → bit_in t cycle j ≡ v (cell_at cycle (slice_index_or kept.now j (record { 0 = 0 })))) }
 {
     let mut frame = zeros(alloc, n.signals() as usize)?;

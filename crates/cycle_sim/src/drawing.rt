@@ -2,6 +2,7 @@
 ghost use Rattle.std.specs.Prelude.{ℕ, ◌≡◌, ◌<◌, ◌+◌, false, length, IfOk, slice_index_or};
 ghost use Rattle.unroll.specs.Bits.{is_set};
 ghost use Rattle.dump_reader.specs.Recording.{IsCount};
+ghost use Rattle.cycle_sim.specs.BitTable.{bit_in};
 ghost use Rattle.cycle_sim.specs.Drawing.{AreDrawn};
 ghost use Rattle.cycle_sim.specs.Words.{generator_at, word_at};
 
@@ -19,7 +20,7 @@ pub fn stimulus(alloc: Global, n: &Netlist, seed: u64, cycles: u32) -> Result<St
     requires cycles { IsCount cycles }
     ensures inputs { IfOk result (λ s. s.width ≡ length n.now.inputs) }
     ensures cycles { IfOk result (λ s. s.count ≡ cycles) }
-    ensures drawn { IfOk result (AreDrawn seed) }
+    ensures drawn { IfOk result (λ s. AreDrawn seed (length n.now.inputs) cycles (bit_in s)) }
 {
     let inputs = n.inputs().len();
     let mut bits = BitRows::new(alloc, inputs, cycles as usize)?;

@@ -3,6 +3,7 @@ ghost use Rattle.std.specs.Prelude.{◌≡◌, ◌<◌, length, IfOk};
 ghost use Rattle.sr_model.specs.Netlist.{Valuation};
 ghost use Rattle.netlist.specs.Wiring.{signals_below};
 ghost use Rattle.dump_reader.specs.Recording.{IsCount};
+ghost use Rattle.cycle_sim.specs.BitTable.{bit_in};
 ghost use Rattle.cycle_sim.specs.Simulation.{AgreeOnCells, HasWhatFollows, IsSimulated, bits_of};
 
 use crate::bit_rows::BitRows;
@@ -60,8 +61,8 @@ pub fn simulate(alloc: Global, n: &Netlist, s: &Stimulus) -> Result<Execution, N
     requires made { s.now.width ≡ length n.now.inputs }
     ensures signals { IfOk result (λ e. e.width ≡ length n.now.drivers) }
     ensures cycles { IfOk result (λ e. e.count ≡ s.now.count) }
-    ensures exists { IfOk result (λ e. IsSimulated n.now s.now (bits_of e)) }
-    ensures one { IfOk result (λ e. (v : Valuation) → IsSimulated n.now s.now v → AgreeOnCells n.now s.now.count (bits_of e) v) }
+    ensures exists { IfOk result (λ e. IsSimulated n.now s.now.count (bit_in s.now) (bits_of e)) }
+    ensures one { IfOk result (λ e. (v : Valuation) → IsSimulated n.now s.now.count (bit_in s.now) v → AgreeOnCells n.now s.now.count (bits_of e) v) }
     ensures follows { IfOk result (λ e. HasWhatFollows n.now s.now.count (bits_of e)) }
 {
     let signals = all_signals(alloc, n)?;

@@ -7,6 +7,7 @@ mod drawing;
 mod execution;
 mod gates;
 mod input_bits;
+mod laws;
 mod load;
 #[cfg(test)]
 mod tests;
@@ -15,5 +16,6 @@ mod traces;
 pub use drawing::stimulus;
 pub use execution::{Execution, simulate};
 pub use input_bits::Stimulus;
+pub use laws::simulation_laws;
 pub use load::load_netlist;
 pub use traces::{simulate_trace, trace_of};

@@ -3,7 +3,7 @@ mod load;
 
 ghost use Rattle.std.specs.Prelude.{◌≡◌};
 
-use crate::{Execution, simulate, simulate_trace, stimulus, trace_of};
+use crate::{Execution, simulate, simulate_trace, simulation_laws, stimulus, trace_of};
 use dump_reader::{Dump, Tri};
 use netlist::{Netlist, are_statements, build};
 use rand_pcg::Lcg64Xsh32;
@@ -101,6 +101,7 @@ fn a_shift_register(rt: HostRuntime) -> Result<(), Fail> {
     assert!(&rt; net.signals() == 4 && net.inputs().len() == 1);
     let drawn = stimulus(alloc, &net, 1, 4)?;
     assert!(&rt; !drawn.bit(0, 1) && drawn.bit(0, 2));
+    simulation_laws();
     let execution = simulate(alloc, &net, &drawn)?;
     has_bits(&rt, &execution);
     let sigs = [Sig(2), Sig(0)];

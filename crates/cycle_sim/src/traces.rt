@@ -43,7 +43,7 @@ pub fn simulate_trace(
     requires signals { All (λ (sig : AnySig). sig.0 < length n.now.drivers) sigs.now }
     requires once { AllPairs (λ a b. a ≢ b) sigs.now }
     ensures cycles { IfOk result (λ d. d.cycles ≡ s.now.count) }
-    ensures rows { IfOk result (λ d. (v : Valuation) × IsSimulated n.now s.now v × (d.rows ≡ traced_rows v s.now.count sigs.now)) }
+    ensures rows { IfOk result (λ d. (v : Valuation) × IsSimulated n.now s.now.count (bit_in s.now) v × (d.rows ≡ traced_rows v s.now.count sigs.now)) }
 {
     let bits = simulated_bits(alloc, n, s, sigs)?;
     let mut dump = Dump::new(alloc, s.cycles());

@@ -2,8 +2,10 @@ pub mod Front
 pub mod Literals
 pub mod Printing
 pub mod ReadBack
+pub mod ReadOrRefused
 pub mod ReadSoFar
 pub mod RefusedOnce
+pub mod RowOrRefused
 pub mod Rows
 pub mod SameRows
 pub mod StatedRows

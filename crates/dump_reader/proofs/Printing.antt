@@ -1,9 +1,9 @@
 -- The printed text, row by row.
-use Rattle.std.proofs.Common.{◌≡◌, ℕ, ◌+◌, ◌<◌, ◌≤◌, Bool, List, [], ◌∷◌, ◌++◌, length, get_or, take, map, codes, Option, Some, refl, sym, ap, ◌∙◌}
+use Rattle.std.proofs.Common.{◌≡◌, ℕ, ◌+◌, ◌<◌, Bool, List, [], ◌∷◌, ◌++◌, length, get_or, take, map, codes, Option, Some, refl, sym, ap, ◌∙◌}
 use Rattle.std.specs.Prelude.{option_map}
 use Rattle.std.specs.List.{flat_map, slice_get}
 use Rattle.std.specs.Fmt.{decimal}
-use Rattle.std.proofs.lemmas.List.{append-nil, map-append, take_all, take_more}
+use Rattle.std.proofs.lemmas.List.{append-nil, map-append, take_more}
 use Rattle.std.proofs.lemmas.List.Concat.{flat_map-append}
 use Rattle.std.proofs.lemmas.Option.{same_Some, slice_get-get_or, get_or_from_slice_get}
 use Rattle.sr_model.specs.declared.cells.Sig.{Sig}
@@ -14,9 +14,6 @@ use Rattle.dump_reader.specs.Print.{bit_character, row_text, printed_lines, prin
 
 abbrev pub first_rows : Recording → ℕ → Recording
 first_rows r n = record { cycles = r.cycles; rows = take n r.rows }
-
-pub printed_none : (names : List (List ℕ)) (r : Recording) → codes "srdump 1\ncycles " ++ (decimal r.cycles ++ 10 ∷ []) ≡ printed names (first_rows r 0)
-printed_none names r = ap (λ (t : List ℕ). codes "srdump 1\ncycles " ++ t) (sym (append-nil (decimal r.cycles ++ 10 ∷ [])))
 
 printed_push : (names : List (List ℕ)) (cycles : ℕ) (rows : List Row) (row : Row) → printed names (record { cycles = cycles; rows = rows ++ row ∷ [] }) ≡ printed names (record { cycles = cycles; rows = rows }) ++ with_line_feed (row_text names row)
 printed_push names cycles rows row =
@@ -55,6 +52,3 @@ printed_more names r i old new name sig cells lt is is_sig is_bits is_name grown
     ∙ ap (λ (cs : List ℕ). get_or names row.sig.0 [] ++ 32 ∷ [] ++ cs ++ 10 ∷ []) characters in
     grown ∙ ap (λ (t : List ℕ). t ++ pushed_row name cells) is ∙ ap (λ (t : List ℕ). printed names (first_rows r i) ++ t) line ∙ sym (printed_push names r.cycles (take i r.rows) row)
     ∙ ap (λ (rows : List Row). printed names (record { cycles = r.cycles; rows = rows })) (sym (take_more r.rows i no_row lt))
-
-pub printed_all : (names : List (List ℕ)) (r : Recording) (i : ℕ) (text : List ℕ) → length r.rows ≤ i → text ≡ printed names (first_rows r i) → text ≡ printed names r
-printed_all names r i text ge is = is ∙ ap (λ (rows : List Row). printed names (record { cycles = r.cycles; rows = rows })) (take_all i r.rows ge)

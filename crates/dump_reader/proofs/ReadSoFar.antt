@@ -13,8 +13,8 @@ use Rattle.dump_reader.specs.declared.refusal.DumpRefusal.TheVariants.{Head, Cyc
 use Rattle.dump_reader.specs.declared.dump.Tri.{Tri}
 use Rattle.dump_reader.specs.Recording.{Recording, recorded, bit_of, row_of}
 use Rattle.dump_reader.specs.Lines.{text_lines, numbered, numbered_from, past_end}
-use Rattle.dump_reader.specs.Grammar.{IsHead, IsCyclesLine, FailsFirst, HasFittingFront, StatesRow, StateRows, Spells, IsRowFault, bit_read}
-use Rattle.dump_reader.specs.Reading.{ReadsHead, ReadsCycles, IsHeadRefusal, IsCyclesRefusal}
+use Rattle.dump_reader.specs.Grammar.{IsCyclesLine, FailsFirst, HasFittingFront, StatesRow, StateRows, Spells, IsRowFault, bit_read}
+use Rattle.dump_reader.specs.Reading.{ReadsHead, ReadsCycles, IsCyclesRefusal}
 use Rattle.dump_reader.specs.Refusal.{IsRefusal, IsRowRefusal}
 
 -- the text's front and some lines state this recording, and these lines are left
@@ -97,12 +97,6 @@ row_refused names signals text r number line left rest (TwiceNamed at) read is r
 row_refused names signals text r number line left rest (RowLength at) read is refused = row_fault _ names signals text r number at line left rest read is refused.0 refused.1
 row_refused names signals text r number line left rest (BadBit at) read is refused = row_fault _ names signals text r number at line left rest read is refused.0 refused.1
 row_refused names signals text r number line left rest NoMemory read is refused = tt
-
-pub head_refused : (names : List (List ℕ)) (signals : ℕ) (text : List ℕ) (past : ℕ) (lines : List (ℕ × List ℕ)) (e : DumpRefusal) → lines ≡ numbered text → past ≡ past_end text → IsHeadRefusal past lines e → IsRefusal names signals text e
-head_refused names signals text past lines (Head at) is last refused =
-    subst (λ n. FailsFirst IsHead n (numbered text) at) last (subst (λ (ls : List (ℕ × List ℕ)). FailsFirst IsHead past ls at) is refused)
-head_refused names signals text past lines NoMemory is last refused = tt
-head_refused names signals text past lines _ is last refused = absurd refused
 
 pub cycles_refused : (names : List (List ℕ)) (signals : ℕ) (text : List ℕ) (past : ℕ) (lines rest : List (ℕ × List ℕ)) (e : DumpRefusal) → lines ≡ numbered text → past ≡ past_end text → ReadsHead lines rest → IsCyclesRefusal signals past rest e
     → IsRefusal names signals text e

@@ -13,7 +13,7 @@ use Rattle.dump_reader.specs.Recording.{Recording, recorded}
 use Rattle.dump_reader.specs.Lines.{numbered, past_end}
 use Rattle.dump_reader.specs.Grammar.{IsHead, IsCyclesLine, FailsFirst, HasFront, HasFittingFront, NamesSignal, NamesNewSignal, StatesRow, StateRows, Spells, IsHeadFault, IsCyclesFault, IsCellsFault, IsSyntaxFault, IsNameFault, IsTwiceFault, IsLengthFault, IsRowFault, bit_read, block_count}
 use Rattle.dump_reader.specs.Refusal.{IsRefusal, IsRowRefusal}
-use Rattle.dump_reader.specs.Laws.{IsRefusedOnce, IsReadOrRefused}
+use Rattle.dump_reader.specs.Laws.{IsRefusedOnce, DumpsAreNotRefused}
 use Rattle.dump_reader.proofs.Tokens.{same_tokens}
 use Rattle.dump_reader.proofs.SameRows.{HasOwnNames, Line, State, same_cons, same_front, same_signal, same_row, same_rows}
 
@@ -259,7 +259,7 @@ read_not names signals text r e own h (at_row f n k) some =
     let front = same_front text h.front.number k.front.number r.cycles k.cycles h.lines (k.before ++ (n, k.bad) ∷ k.after) h.front.front k.front.front in
     not_read names k.cycles h.lines k.before k.after (n, k.bad) k.rows r.rows f n own k.read (subst (λ t. StateRows names t h.lines r.rows) front.1 h.rows) front.2 k.fault some
 
-pub not_both : IsReadOrRefused
+pub not_both : DumpsAreNotRefused
 not_both c text r NoMemory circuit h k = refl
 not_both c text r (Head line) circuit h k = absurd (read_not c.names (length c.drivers) text r (Head line) circuit.distinct h (broken c.names (length c.drivers) text (Head line) k (λ e. cc)) (λ e. cc))
 not_both c text r (Cycles line) circuit h k = absurd (read_not c.names (length c.drivers) text r (Cycles line) circuit.distinct h (broken c.names (length c.drivers) text (Cycles line) k (λ e. cc)) (λ e. cc))

@@ -11,7 +11,8 @@ use Rattle.std.proofs.lemmas.List.Quantifiers.{all_pairs_push}
 use Rattle.sr_model.specs.declared.cells.Sig.{Sig}
 use Rattle.sr_model.specs.Dump.{Row}
 use Rattle.dump_reader.specs.declared.dump.Tri.{Tri}
-use Rattle.dump_reader.specs.Recording.{Recording, IsRecording, bit_of, row_of, rows_of, recorded}
+use Rattle.dump_reader.specs.Recording.{Recording, IsRecording, bit_of, row_of, recorded}
+use Rattle.dump_reader.specs.Kept.{rows_of}
 use Rattle.dump_reader.specs.Kept.{IsKept, is_marked}
 
 nil_from_length : {X : Type 0} (xs : List X) → length xs ≡ 0 → xs ≡ []

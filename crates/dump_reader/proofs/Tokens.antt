@@ -5,7 +5,7 @@ use Rattle.std.specs.List.{All, prefix_len, position_or_len}
 use Rattle.std.proofs.lemmas.Bool.{cond-true, cond-false, lt-ltb, ltb-true, cases_lt, not_from_true, not_from_false, true≢false}
 use Rattle.std.proofs.lemmas.List.{append-nil, length-append, length-take, length-take-le, length-drop, get_or-take, get_or-drop, take-append-drop, drop-drop, drop_at, take_at, take_rest}
 use Rattle.std.proofs.lemmas.List.Elements.{All-head, All-tail}
-use Rattle.std.proofs.lemmas.List.Sums.{prefix_len_passes, prefix_len_stops, fails_before_first, passes_at_first}
+use Rattle.std.proofs.lemmas.List.Sums.{prefix_len-le-length, prefix_len_passes, prefix_len_stops, fails_before_first, passes_at_first}
 use Rattle.std.proofs.lemmas.Option.{none-some, same_Some, some_pair_parts, cond_some}
 use Rattle.sr_text.specs.Text.{is_blank, token_at}
 use Rattle.dump_reader.specs.Lines.{HasTwoTokens, texts_of}
@@ -187,3 +187,50 @@ whole_is text start end second_start last e f zero all some within below =
     let e : token_at text 0 ≡ Some (0, end) = e ∙ ap (λ n. Some (n, end)) (omega (arith, zero)) in
     let f : token_at text end ≡ Some (second_start, length text) = f ∙ ap (λ n. Some (second_start, n)) (omega (arith, all, below)) in
     subst (HasTwoTokens text (take end text)) (sym (take_rest text second_start)) (two_found text end second_start e f (omega (arith, some)) within)
+
+-- ---- a text has two tokens, or not
+
+-- a token that is found is no empty one, and ends within its line
+token_within : (line : List ℕ) (from start end : ℕ) → IsTokenAt line from start end → (start < end) × (end ≤ length line)
+token_within line from start end is =
+    let rest : List ℕ = drop start line in
+    let left : length rest ≡ length line - start = length-drop start line in
+    let few : position_or_len is_blank rest ≤ length rest = prefix_len-le-length (λ x. not (is_blank x)) rest in
+    let gap : ℕ = prefix_len is_blank (drop from line) in
+    let front : length (drop from line) ≡ length line - from = length-drop from line in
+    let some : 0 < position_or_len is_blank rest =
+    elim (cases_lt 0 (position_or_len is_blank rest)) [
+      | inl lt ↦ lt
+      | inr none ↦
+          let zero : position_or_len is_blank rest ≡ 0 = omega arith in
+          let blank : is_blank (get_or rest 0 0) ≡ true = subst (λ k. is_blank (get_or rest k 0) ≡ true) zero (passes_at_first is_blank rest 0 (omega (arith, zero, left, is.within))) in
+          let other : is_blank (get_or (drop from line) gap 0) ≡ false = prefix_len_stops is_blank (drop from line) 0 (omega (arith, front, is.at, is.within)) in
+          let at : get_or rest 0 0 ≡ get_or (drop from line) gap 0 =
+          get_or-drop start line 0 0 ∙ ap (λ k. get_or line k 0) (omega (arith, is.at)) ∙ sym (get_or-drop from line gap 0) in
+          absurd (true≢false (sym blank ∙ ap is_blank at ∙ other))
+    ] in
+    (omega (arith, is.ends, some), omega (arith, is.ends, few, left, is.within))
+
+abbrev pub HasNone : List ℕ → Type 0
+HasNone text = (first second : List ℕ) → HasTwoTokens text first second → ⊥
+
+second_or_none : (text : List ℕ) (start end : ℕ) (second : Option (ℕ × ℕ)) → token_at text 0 ≡ Some (start, end) → token_at text end ≡ second → ((a b : List ℕ) × HasTwoTokens text a b) ⊎ HasNone text
+second_or_none text start end None e f = inr (no_second text start end e f)
+second_or_none text start end (Some (from, last)) e f =
+    elim (cases_lt 0 start) [
+      | inl late ↦ inr (not_whole text start end from last e f (inl late))
+      | inr first ↦ elim (cases_lt last (length text)) [
+        | inl early ↦ inr (not_whole text start end from last e f (inr early))
+        | inr whole ↦
+            let one = token_within text 0 start end (token_found text 0 start end e) in
+            let two = token_within text end from last (token_found text end from last f) in
+            inl (take end text, take (length text - from) (drop from text), whole_is text start end from last e f first whole one.0 one.1 two.1)
+      ]
+    ]
+
+first_or_none : (text : List ℕ) (first : Option (ℕ × ℕ)) → token_at text 0 ≡ first → ((a b : List ℕ) × HasTwoTokens text a b) ⊎ HasNone text
+first_or_none text None e = inr (no_first text e)
+first_or_none text (Some (start, end)) e = second_or_none text start end (token_at text end) e refl
+
+pub two_or_none : (text : List ℕ) → ((first second : List ℕ) × HasTwoTokens text first second) ⊎ HasNone text
+two_or_none text = first_or_none text (token_at text 0) refl

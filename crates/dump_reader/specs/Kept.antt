@@ -1,9 +1,15 @@
 -- How a dump keeps its rows.
-use Rattle.std.specs.Prelude.{ℕ, ◌≡◌, ◌≢◌, ◌*◌, ◌↔◌, Bool, false, IsTrue, List, length, slice_index_or, Contains}
+use Rattle.std.specs.Prelude.{ℕ, ◌≡◌, ◌≢◌, ◌*◌, ◌↔◌, Bool, false, IsTrue, List, [], ◌∷◌, length, take, drop, slice_index_or, Contains}
 use Rattle.std.specs.List.{AllPairs}
 use Rattle.sr_model.specs.declared.cells.Sig.{Sig}
+use Rattle.sr_model.specs.Dump.{Row}
 use Rattle.dump_reader.specs.declared.dump.Tri.{Tri}
-use Rattle.dump_reader.specs.Recording.{IsCount}
+use Rattle.dump_reader.specs.Recording.{IsCount, row_of}
+
+-- the rows of these signals, whose cells stand one row behind the other
+abbrev pub rows_of : ℕ → List Sig → List Tri → List Row
+rows_of cycles [] cells = []
+rows_of cycles (sig ∷ sigs) cells = row_of sig (take cycles cells) ∷ rows_of cycles sigs (drop cycles cells)
 
 -- whether signal i has a row, in a list that ends behind the last that has one
 abbrev pub is_marked : List Bool → ℕ → Bool

@@ -1,5 +1,5 @@
--- A text has one reading or one refusal, and what is printed reads as what it was.
-use Rattle.std.specs.Prelude.{ℕ, ◌≡◌, ◌≢◌, ◌↔◌, ◌<◌, ◌≤◌, IsTrue, List, length, Some, option_and_then, Contains}
+-- Each text has one reading or one refusal, and what is printed reads as what it was.
+use Rattle.std.specs.Prelude.{ℕ, ◌≡◌, ◌≢◌, ◌⊎◌, ◌↔◌, ◌<◌, ◌≤◌, IsTrue, List, length, Some, option_and_then, Contains}
 use Rattle.std.specs.List.{All, slice_get}
 use Rattle.sr_model.specs.declared.cells.Lit.{Lit}
 use Rattle.sr_model.specs.Dump.{dump_has}
@@ -19,9 +19,13 @@ HasOneReading = (c : Circuit) (text : List ℕ) (a b : Recording) → IsCircuit 
 abbrev pub IsRefusedOnce : Type 0
 IsRefusedOnce = (c : Circuit) (text : List ℕ) (a b : DumpRefusal) → IsCircuit c → IsRefusal c.names (length c.drivers) text a → IsRefusal c.names (length c.drivers) text b → (a ≢ NoMemory) → (b ≢ NoMemory) → a ≡ b
 
--- and is never a dump where it is refused
+-- where it is a dump, it is refused for want of memory alone
+abbrev pub DumpsAreNotRefused : Type 0
+DumpsAreNotRefused = (c : Circuit) (text : List ℕ) (r : Recording) (e : DumpRefusal) → IsCircuit c → Spells c.names (length c.drivers) text r → IsRefusal c.names (length c.drivers) text e → e ≡ NoMemory
+
+-- it is a dump, or has a refusal other than want of memory
 abbrev pub IsReadOrRefused : Type 0
-IsReadOrRefused = (c : Circuit) (text : List ℕ) (r : Recording) (e : DumpRefusal) → IsCircuit c → Spells c.names (length c.drivers) text r → IsRefusal c.names (length c.drivers) text e → e ≡ NoMemory
+IsReadOrRefused = (c : Circuit) (text : List ℕ) → ((r : Recording) × Spells c.names (length c.drivers) text r) ⊎ ((e : DumpRefusal) × IsRefusal c.names (length c.drivers) text e × (e ≢ NoMemory))
 
 -- what a text spells is a recording of the netlist's signals
 abbrev pub SpellsRecording : Type 0

@@ -1,5 +1,5 @@
 -- What a dump records.
-use Rattle.std.specs.Prelude.{ℕ, ◌≡◌, ◌≢◌, ◌≤◌, Bool, true, false, List, [], ◌∷◌, length, map, take, drop, Option, Some, None}
+use Rattle.std.specs.Prelude.{ℕ, ◌≡◌, ◌≢◌, ◌≤◌, Bool, true, false, List, length, map, Option, Some, None}
 use Rattle.std.specs.List.{All, AllPairs}
 use Rattle.sr_model.specs.declared.cells.Sig.{Sig}
 use Rattle.sr_model.specs.Dump.{Row}
@@ -20,11 +20,6 @@ bit_of X = None
 -- the row of a signal with these cells
 abbrev pub row_of : Sig → List Tri → Row
 row_of sig cells = record { sig = sig; bits = map bit_of cells }
-
--- the rows of these signals, whose cells stand one row behind the other
-abbrev pub rows_of : ℕ → List Sig → List Tri → List Row
-rows_of cycles [] cells = []
-rows_of cycles (sig ∷ sigs) cells = row_of sig (take cycles cells) ∷ rows_of cycles sigs (drop cycles cells)
 
 -- the signals that have a row, in the order of the rows
 abbrev pub recorded : List Row → List Sig

@@ -30,7 +30,8 @@ pub struct Dump {
 }
 
 impl Model for Dump {
-    ghost use Rattle.dump_reader.specs.Recording.{Recording, rows_of};
+    ghost use Rattle.dump_reader.specs.Recording.{Recording};
+    ghost use Rattle.dump_reader.specs.Kept.{rows_of};
     ghost use Rattle.dump_reader.specs.Kept.{IsKept};
 
     ghost Value = { Recording };

@@ -24,7 +24,7 @@ const MAX_BLOCKS: u64 = 4_194_304;
 /// A line is cut at its first `#`. Tabs, spaces and carriage returns stand round its tokens, and a line that is empty then is passed over. The
 /// blocks, each of up to 64 cycles of one signal, are 4,194,304 at most.
 ///
-/// The time is linear in the bytes, apart from looking up a name for each row, and memory is taken for many rows at once.
+/// The time is linear in the bytes, apart from looking up a name for each row by `find`, and memory is taken for many rows at once.
 pub fn read_dump(alloc: Global, n: &Netlist, bytes: &[u8]) -> Result<Dump, DumpRefusal>
     ensures dump { IfOk result (λ d. Spells n.now.names (length n.now.drivers) bytes.now d) }
     ensures signals { IfOk result (λ d. All (λ row. row.sig.0 < length n.now.drivers) d.rows) }

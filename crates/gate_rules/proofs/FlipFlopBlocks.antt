@@ -15,7 +15,7 @@ use Rattle.unroll.specs.Problem.{Unrolling, chunks_in, block_at, sig_at, chunk_a
 use Rattle.unroll.specs.Tasks.{task_at}
 use Rattle.unroll.proofs.BlockNumbers.{block-sig, block-chunk, block-itself, cycle-chunk}
 use Rattle.gate_rules.specs.declared.flip_flops.CellBlocks.{CellBlocks}
-use Rattle.gate_rules.specs.Forced.{ForcedIn, words_of, view_has}
+use Rattle.gate_rules.specs.Forced.{ForcedInCycles, words_of, view_has}
 use Rattle.gate_rules.specs.FlipFlopBits.{is_set_after, is_shared, is_bit_of}
 use Rattle.gate_rules.proofs.FlipFlopForced.{IsShared, task-forces}
 
@@ -77,16 +77,19 @@ module _ (u : Unrolling) (target pin : Sig) (chunk : ℕ) (early : chunk < chunk
     plus : (m n : ℕ) → m + n + 1 ≡ m + (n + 1)
     plus m n = omega arith
 
-  module _ (valid : ℕ) (is_valid : (i : ℕ) → i < 64 → is_set valid i ≡ is_cycle u.cycles chunk (i + 1)) (blocks : List Block) (view : List PinWord) (bit : Bool) (shared : ℕ)
+  module _ (valid mask : ℕ) (is_valid : (i : ℕ) → i < 64 → is_set valid i ≡ (is_cycle u.cycles chunk (i + 1) && is_set mask i)) (blocks : List Block) (view : List PinWord) (bit : Bool) (shared : ℕ)
       (is : (i : ℕ) → i < 64 → is_set shared i ≡ is_shared (word_for bit (words_of blocks view cells.pin)) (word_for bit (words_of blocks view cells.own)) (word_for bit (words_of blocks view cells.next)) valid i) where
     -- the literal is known of either cell of the instance of a bit
     abbrev KnownAt : ℕ → Type 0
     KnownAt k = (view_has u blocks view (lit (cell_at (64 * chunk + k) pin) bit) ≡ true) ⊎ (view_has u blocks view (lit (cell_at (64 * chunk + k + 1) target) bit) ≡ true)
 
-    in-time : (k : ℕ) → k < 64 → (is_set valid k ≡ true) ↔ (64 * chunk + k + 1 < u.cycles)
+    in-time : (k : ℕ) → k < 64 → (is_set valid k ≡ true) ↔ ((64 * chunk + k + 1 < u.cycles) × (is_set mask k ≡ true))
     in-time k h = (
-      λ set. let below : 64 * chunk + (k + 1) < u.cycles = ltb-true (64 * chunk + (k + 1)) u.cycles (sym (is_valid k h) ∙ set) in omega arith,
-      λ below. is_valid k h ∙ lt-ltb (64 * chunk + (k + 1)) u.cycles (omega (arith, below)),
+      λ set.
+          let both : (is_cycle u.cycles chunk (k + 1) ≡ true) × (is_set mask k ≡ true) = and_parts (is_cycle u.cycles chunk (k + 1)) (is_set mask k) (sym (is_valid k h) ∙ set) in
+          let below : 64 * chunk + (k + 1) < u.cycles = ltb-true (64 * chunk + (k + 1)) u.cycles both.0 in
+          (omega (arith, below), both.1),
+      λ (below, masked). is_valid k h ∙ and_from (is_cycle u.cycles chunk (k + 1)) (is_set mask k) (lt-ltb (64 * chunk + (k + 1)) u.cycles (omega (arith, below))) masked,
     )
 
     pin-known : (k : ℕ) → k < 64 → 64 * chunk + k + 1 < u.cycles → is_set (word_for bit (words_of blocks view cells.pin)) k ≡ view_has u blocks view (lit (cell_at (64 * chunk + k) pin) bit)
@@ -99,26 +102,28 @@ module _ (u : Unrolling) (target pin : Sig) (chunk : ℕ) (early : chunk < chunk
         ∙ ap (λ b. is_set_after (word_for bit (words_of blocks view (block_at u target chunk))) (word_for bit (words_of blocks view b)) k) at_next
         ∙ known-after u blocks view bit target chunk k h below
 
-    shared-says : (k : ℕ) → k < 64 → (is_set shared k ≡ true) ↔ ((64 * chunk + k + 1 < u.cycles) × KnownAt k)
+    shared-says : (k : ℕ) → k < 64 → (is_set shared k ≡ true) ↔ ((64 * chunk + k + 1 < u.cycles) × (is_set mask k ≡ true) × KnownAt k)
     shared-says k h =
         let pins : Bool = is_set (word_for bit (words_of blocks view cells.pin)) k in
         let later : Bool = is_set_after (word_for bit (words_of blocks view cells.own)) (word_for bit (words_of blocks view cells.next)) k in (
           λ set.
               let parts = and_parts (is_set (word_for bit (words_of blocks view cells.pin)) k || is_set_after (word_for bit (words_of blocks view cells.own)) (word_for bit (words_of blocks view cells.next)) k)
               (is_set valid k) (sym (is k h) ∙ set) in
-              let below : 64 * chunk + k + 1 < u.cycles = (in-time k h).0 parts.1 in (
+              let timely : (64 * chunk + k + 1 < u.cycles) × (is_set mask k ≡ true) = (in-time k h).0 parts.1 in
+              let below : 64 * chunk + k + 1 < u.cycles = timely.0 in (
                 below,
+                timely.1,
                 elim (or_cases (is_set (word_for bit (words_of blocks view cells.pin)) k) (is_set_after (word_for bit (words_of blocks view cells.own)) (word_for bit (words_of blocks view cells.next)) k) parts.0) [
                   | inl p ↦ inl (sym (pin-known k h below) ∙ p)
                   | inr o ↦ inr (sym (after-known k h below) ∙ o)
                 ],
               ),
-          λ (below, either).
+          λ (below, masked, either).
               is k h ∙ and_from (is_set (word_for bit (words_of blocks view cells.pin)) k || is_set_after (word_for bit (words_of blocks view cells.own)) (word_for bit (words_of blocks view cells.next)) k)
               (is_set valid k) (elim either [
                 | inl p ↦ or_left pins later (pin-known k h below ∙ p)
                 | inr o ↦ or_right pins later (after-known k h below ∙ o)
-              ]) ((in-time k h).1 below),
+              ]) ((in-time k h).1 (below, masked)),
         )
 
     next-chunk : is_set shared 63 ≡ true → chunk + 1 < chunks_in u
@@ -217,21 +222,29 @@ module _ (u : Unrolling) (target pin : Sig) (chunk : ℕ) (early : chunk < chunk
         carry : (m n : ℕ) → n < 64 → 63 ≤ n → 64 * m + n + 1 ≡ 64 * (m + 1) + 0
         carry m n p q = omega arith
 
-    -- so the bits of a block are what the task forces of its cells
+    -- so the bits of a block are what the task forces of its cells in the cycles of the mask
     pub block-forced : driver_at u.circuit.drivers target.0 ≡ Driven Dff (pin ∷ []) → (b : Block) (i : ℕ) → i < 64
-        → IsTrue (is_bit_of cells b shared i) ↔ ForcedIn u (task_at u target chunk) (view_has u blocks view) (lit (cell_of u b i) bit)
+        → IsTrue (is_bit_of cells b shared i) ↔ ForcedInCycles u (task_at u target chunk) mask (view_has u blocks view) (lit (cell_of u b i) bit)
     block-forced driver b i h =
-        let exact = task-forces u target pin chunk early driver (view_has u blocks view) (cell_of u b i) bit in (
+        let exact = task-forces u target pin chunk mask early driver (view_has u blocks view) (cell_of u b i) bit in (
           λ set.
               let a : IsAt b i = found b i h set in
-              let says : (64 * chunk + a.lane + 1 < u.cycles) × KnownAt a.lane = (shared-says a.lane a.within).0 a.set in
-              exact.1 (record { cycle = 64 * chunk + a.lane; in_chunk = chunk-of chunk a.lane a.within; in_time = says.0; has_cell = a.cell; is_known = says.1 }),
+              let says : (64 * chunk + a.lane + 1 < u.cycles) × (is_set mask a.lane ≡ true) × KnownAt a.lane = (shared-says a.lane a.within).0 a.set in
+              exact.1 (record {
+                cycle = 64 * chunk + a.lane;
+                in_chunk = chunk-of chunk a.lane a.within;
+                in_time = says.0;
+                in_mask = ap (is_set mask) (bit-of chunk a.lane a.within) ∙ says.1;
+                has_cell = a.cell;
+                is_known = says.2;
+              }),
           λ f.
-              let s : IsShared u target pin chunk (view_has u blocks view) (cell_of u b i) bit = exact.0 f in
+              let s : IsShared u target pin chunk mask (view_has u blocks view) (cell_of u b i) bit = exact.0 f in
               let within : s.cycle % 64 < 64 = below s.cycle in
               let at : s.cycle ≡ 64 * chunk + s.cycle % 64 = cycle s.cycle chunk s.in_chunk in
-              let known : (64 * chunk + s.cycle % 64 + 1 < u.cycles) × KnownAt (s.cycle % 64) = (
+              let known : (64 * chunk + s.cycle % 64 + 1 < u.cycles) × (is_set mask (s.cycle % 64) ≡ true) × KnownAt (s.cycle % 64) = (
                 subst (λ n. n + 1 < u.cycles) at s.in_time,
+                s.in_mask,
                 subst (λ n. (view_has u blocks view (lit (cell_at n pin) bit) ≡ true) ⊎ (view_has u blocks view (lit (cell_at (n + 1) target) bit) ≡ true)) at s.is_known,
               ) in
               is-in b i h (record {

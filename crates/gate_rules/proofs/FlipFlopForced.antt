@@ -1,5 +1,5 @@
 -- What a flip-flop forces: an instance has one bit for its data pin's cell and its own cell one cycle later, and so the task of a chunk.
-use Rattle.std.proofs.Common.{ℕ, ◌≡◌, ◌+◌, ◌/◌, ◌<◌, ◌⊎◌, ◌↔◌, Bool, true, false, List, [], ◌∷◌, arith, inl, inr, refl, sym, ap, ◌∙◌, subst}
+use Rattle.std.proofs.Common.{ℕ, ◌≡◌, ◌+◌, ◌/◌, ◌%◌, ◌<◌, ◌⊎◌, ◌↔◌, Bool, true, false, List, [], ◌∷◌, arith, inl, inr, refl, sym, ap, ◌∙◌, subst}
 use Rattle.std.specs.List.{Contains}
 use Rattle.std.proofs.lemmas.Bool.{true≢false}
 use Rattle.std.proofs.lemmas.List.Elements.{All-get_or}
@@ -19,10 +19,11 @@ use Rattle.sr_model.proofs.AndExact.{target_t-exact, target_other-exact, pin_p-e
 use Rattle.sr_model.proofs.Families.{dff_family}
 use Rattle.sr_model.proofs.OddPins.{dff_apart}
 use Rattle.netlist.specs.Wiring.{driver_at, is_flip_flop, HasPinCount}
+use Rattle.unroll.specs.Bits.{is_set}
 use Rattle.unroll.specs.Problem.{Unrolling, unrolled, IsProblem, signals_in, chunks_in}
 use Rattle.unroll.specs.Tasks.{task_at}
 use Rattle.unroll.proofs.BlockNumbers.{block-sig, block-chunk}
-use Rattle.gate_rules.specs.Forced.{ForcedIn}
+use Rattle.gate_rules.specs.Forced.{ForcedInCycles}
 use Rattle.gate_rules.specs.FlipFlopBits.{data_pin}
 
 -- a flip-flop's driver has one pin
@@ -98,15 +99,16 @@ module _ (pin : Sig) (p : Place) (known : Lit → Bool) where
     ],
   )
 
--- the literal is of a cell of an instance in the chunk, and is known of one of its cells
-pub record IsShared (u : Unrolling) (target pin : Sig) (chunk : ℕ) (known : Lit → Bool) (c : Cell) (bit : Bool) : Type 0 where
+-- the literal is of a cell of an instance in a cycle of the chunk's mask, and is known of one of its cells
+pub record IsShared (u : Unrolling) (target pin : Sig) (chunk mask : ℕ) (known : Lit → Bool) (c : Cell) (bit : Bool) : Type 0 where
   pub cycle : ℕ
   pub in_chunk : cycle / 64 ≡ chunk
   pub in_time : cycle + 1 < u.cycles
+  pub in_mask : is_set mask (cycle % 64) ≡ true
   pub has_cell : (c ≡ cell_at cycle pin) ⊎ (c ≡ cell_at (cycle + 1) target)
   pub is_known : (known (lit (cell_at cycle pin) bit) ≡ true) ⊎ (known (lit (cell_at (cycle + 1) target) bit) ≡ true)
 
-module _ (u : Unrolling) (target pin : Sig) (chunk : ℕ) (early : chunk < chunks_in u) (driver : driver_at u.circuit.drivers target.0 ≡ Driven Dff (pin ∷ [])) (known : Lit → Bool) where
+module _ (u : Unrolling) (target pin : Sig) (chunk mask : ℕ) (early : chunk < chunks_in u) (driver : driver_at u.circuit.drivers target.0 ≡ Driven Dff (pin ∷ [])) (known : Lit → Bool) where
   -- an instance of the target is the flip-flop's
   the-instance : (p : Place) (i : Instance) → target ≡ p.target → Stands u.cycles (driver_at u.circuit.drivers p.target.0) p i
       → (i ≡ instance_of Dff (pin ∷ []) p) × (p.cycle + 1 < u.cycles)
@@ -124,8 +126,8 @@ module _ (u : Unrolling) (target pin : Sig) (chunk : ℕ) (early : chunk < chunk
       same-pins : (j k : Kind) (xs ys : List Sig) → Driven j xs ≡ Driven k ys → xs ≡ ys
       same-pins j k xs ys e = cc
 
-  -- exactly what the flip-flop's task forces
-  pub task-forces : (c : Cell) (bit : Bool) → ForcedIn u (task_at u target chunk) known (lit c bit) ↔ IsShared u target pin chunk known c bit
+  -- exactly what the flip-flop's task forces in the cycles of the mask
+  pub task-forces : (c : Cell) (bit : Bool) → ForcedInCycles u (task_at u target chunk) mask known (lit c bit) ↔ IsShared u target pin chunk mask known c bit
   task-forces c bit = (
     λ f.
         let p : Place = f.place in
@@ -136,6 +138,7 @@ module _ (u : Unrolling) (target pin : Sig) (chunk : ℕ) (early : chunk < chunk
           cycle = p.cycle;
           in_chunk = sym f.belongs.1 ∙ block-chunk u target chunk early;
           in_time = is.1;
+          in_mask = f.in_mask;
           has_cell = subst (λ s. (c ≡ cell_at p.cycle pin) ⊎ (c ≡ cell_at (p.cycle + 1) s)) (sym at) says.0;
           is_known = subst (λ s. (known (lit (cell_at p.cycle pin) bit) ≡ true) ⊎ (known (lit (cell_at (p.cycle + 1) s) bit) ≡ true)) (sym at) says.1;
         },
@@ -144,6 +147,7 @@ module _ (u : Unrolling) (target pin : Sig) (chunk : ℕ) (early : chunk < chunk
         record {
           place = p;
           belongs = (block-sig u target chunk early, block-chunk u target chunk early ∙ sym h.in_chunk);
+          in_mask = h.in_mask;
           forces = record {
             instance = instance_of Dff (pin ∷ []) p;
             stands = stands-at (unrolled u) p Dff (pin ∷ []) driver h.in_time;

@@ -1,8 +1,8 @@
 -- What a gate's task forces in a cycle of its chunk is what the gate's instance there forces.
-use Rattle.std.proofs.Common.{ℕ, ◌≡◌, ◌≢◌, ◌+◌, ◌*◌, ◌/◌, ◌<◌, ◌≤◌, ◌↔◌, Bool, true, false, List, length, map, get_or, arith, inl, inr, refl, sym, ap, ◌∙◌, subst}
+use Rattle.std.proofs.Common.{ℕ, ◌≡◌, ◌≢◌, ◌+◌, ◌*◌, ◌/◌, ◌%◌, ◌<◌, ◌≤◌, ◌↔◌, ◌&&◌, Bool, true, false, List, length, map, get_or, arith, inl, inr, refl, sym, ap, ◌∙◌, subst}
 use Rattle.std.specs.Prelude.{IsTrue}
 use Rattle.std.specs.List.{Contains}
-use Rattle.std.proofs.lemmas.Bool.{cases_Bool, ltb-true, lt-ltb, true≢false}
+use Rattle.std.proofs.lemmas.Bool.{cases_Bool, and_parts, and_from, ltb-true, lt-ltb, true≢false}
 use Rattle.std.proofs.lemmas.List.{length-map}
 use Rattle.sr_model.specs.declared.gates.Kind.{Kind}
 use Rattle.sr_model.specs.declared.cells.Sig.{Sig}
@@ -26,7 +26,7 @@ use Rattle.unroll.specs.Tasks.{blocks_from, task_at}
 use Rattle.unroll.proofs.BlockNumbers.{block-sig, block-chunk}
 use Rattle.unroll.proofs.ConstantTasks.{pin-count}
 use Rattle.gate_rules.specs.Lanes.{words_at, IsLane}
-use Rattle.gate_rules.specs.Forced.{ForcedIn, IsForcedExactly, bit_at_place, lit_at_place, view_has}
+use Rattle.gate_rules.specs.Forced.{ForcedInCycles, IsForcedExactlyIn, bit_at_place, lit_at_place, view_has}
 use Rattle.gate_rules.proofs.GateLanes.{gate-delay, lane_place, lane_cells, count, block-here, cell-there, count-cells, two-cells, gate-lane, odd-there}
 
 -- the cells of a gate's instance are in its cycle
@@ -43,12 +43,15 @@ place-is p n s e f = ap (λ m. record { cycle = m; target = p.target }) e ∙ ap
 chunk-of : (chunk i : ℕ) → i < 64 → chunk ≡ (64 * chunk + i) / 64
 chunk-of chunk i lane = omega (arith, lane)
 
+bit-of : (chunk i : ℕ) → i < 64 → i ≡ (64 * chunk + i) % 64
+bit-of chunk i lane = omega (arith, lane)
+
 module _ (u : Unrolling) (target : Sig) (chunk : ℕ) (early : chunk < chunks_in u) (kind : Kind) (pins : List Sig)
-    (driver : driver_at u.circuit.drivers target.0 ≡ Driven kind pins) (none : delay kind ≡ 0) (known : Lit → Bool) (i : ℕ) where
-  -- what is forced in the task is forced at the gate's instance in the cycle, if there is one
-  pub task-instance : (s : Sig) (bit : Bool) → ForcedIn u (task_at u target chunk) known (lit (cell_at (64 * chunk + i) s) bit)
-      → (64 * chunk + i < u.cycles) × Forces (instance_of kind pins (lane_place target chunk i)) (passing known) (lit (cell_at (64 * chunk + i) s) bit)
-  task-instance s bit f =
+    (driver : driver_at u.circuit.drivers target.0 ≡ Driven kind pins) (none : delay kind ≡ 0) (mask : ℕ) (known : Lit → Bool) (i : ℕ) where
+  -- what is forced in the task is forced at the gate's instance in the cycle, if there is one, and the mask has it
+  pub task-instance : (s : Sig) (bit : Bool) → i < 64 → ForcedInCycles u (task_at u target chunk) mask known (lit (cell_at (64 * chunk + i) s) bit)
+      → (64 * chunk + i < u.cycles) × (is_set mask i ≡ true) × Forces (instance_of kind pins (lane_place target chunk i)) (passing known) (lit (cell_at (64 * chunk + i) s) bit)
+  task-instance s bit lane f =
       let p : Place = f.place in
       let st : Stands u.cycles (driver_at u.circuit.drivers f.place.target.0) f.place f.forces.instance = stands (unrolled u) f.place f.forces.instance f.forces.stands in
       let at_target : f.place.target ≡ target = sym f.belongs.0 ∙ block-sig u target chunk early in
@@ -61,14 +64,16 @@ module _ (u : Unrolling) (target : Sig) (chunk : ℕ) (early : chunk < chunks_in
       let in_cycle : 64 * chunk + i ≡ f.place.cycle = gate-cycle kind pins f.place (cell_at (64 * chunk + i) s) none forced.on_cells in
       let in_time : f.place.cycle + delay st.kind < u.cycles = st.in_time in (
         omega (arith, in_cycle, in_time),
+        ap (is_set mask) (bit-of chunk i lane ∙ ap (λ n. n % 64) in_cycle) ∙ f.in_mask,
         subst (λ (q : Place). Forces (instance_of kind pins q) (passing known) (lit (cell_at (64 * chunk + i) s) bit)) (place-is f.place (64 * chunk + i) target (sym in_cycle) at_target) forced,
       )
 
   -- and back
-  pub instance-task : (l : Lit) → i < 64 → 64 * chunk + i < u.cycles → Forces (instance_of kind pins (lane_place target chunk i)) (passing known) l → ForcedIn u (task_at u target chunk) known l
-  instance-task l lane in_time f = record {
+  pub instance-task : (l : Lit) → i < 64 → 64 * chunk + i < u.cycles → is_set mask i ≡ true → Forces (instance_of kind pins (lane_place target chunk i)) (passing known) l → ForcedInCycles u (task_at u target chunk) mask known l
+  instance-task l lane in_time masked f = record {
     place = lane_place target chunk i;
     belongs = (block-sig u target chunk early, block-chunk u target chunk early ∙ chunk-of chunk i lane);
+    in_mask = ap (is_set mask) (sym (bit-of chunk i lane)) ∙ masked;
     forces = record {
       instance = instance_of kind pins (lane_place target chunk i);
       stands = stands-at (unrolled u) (lane_place target chunk i) kind pins driver (omega (arith, in_time, none));
@@ -105,34 +110,40 @@ module _ (u : Unrolling) (is : IsProblem u) (target : Sig) (chunk : ℕ) (early 
       let below : j < length (signals_of u.circuit.drivers target) = subst (λ n. j < n) (count u is target chunk early kind pins driver gate blocks are k within at) h in
       ap (λ c. lit c bit) (cell-there u is target chunk early kind pins driver gate blocks are k within at i j d below) ∙ sym (lit-is j i bit h)
 
-  module _ (view words : List PinWord) (size : length view ≡ length blocks) where
+  module _ (mask : ℕ) (view words : List PinWord) (size : length view ≡ length blocks) where
     abbrev known : Lit → Bool
     known = view_has u blocks view
 
-    -- where the words have what the instance of each cycle forces, they have what the task does
-    exact : ((j i : ℕ) (bit : Bool) → j < length blocks → i < 64 → is_cycle u.cycles chunk i ≡ false → bit_at_place words j bit i ≡ false)
-        → ((j i : ℕ) (bit : Bool) → j < length blocks → i < 64 → is_cycle u.cycles chunk i ≡ true
+    -- the cycle is there, and in the mask
+    abbrev is_asked : ℕ → Bool
+    is_asked i = is_cycle u.cycles chunk i && is_set mask i
+
+    -- where the words have what the instance of each cycle of the mask forces, they have what the task does
+    exact : ((j i : ℕ) (bit : Bool) → j < length blocks → i < 64 → is_asked i ≡ false → bit_at_place words j bit i ≡ false)
+        → ((j i : ℕ) (bit : Bool) → j < length blocks → i < 64 → is_asked i ≡ true
         → IsTrue (bit_at_place words j bit i) ↔ Forces (instance_of kind pins (lane_place target chunk i)) (passing known) (lit_at_place u blocks j bit i))
-        → IsForcedExactly u (task_at u target chunk) blocks view words
+        → IsForcedExactlyIn u (task_at u target chunk) mask blocks view words
     exact invalid forced j i bit h lane =
         let s : Sig = get_or (signals_of u.circuit.drivers target) j target in
-        let in_lane : ForcedIn u (task_at u target chunk) known (lit_at_place u blocks j bit i)
-        → (64 * chunk + i < u.cycles) × Forces (instance_of kind pins (lane_place target chunk i)) (passing known) (lit (cell_at (64 * chunk + i) (get_or (signals_of u.circuit.drivers target) j target)) bit) =
-        λ f. task-instance u target chunk early kind pins driver none known i s bit (subst (ForcedIn u (task_at u target chunk) known) (lit-is j i bit h) f) in
-        elim (cases_Bool (is_cycle u.cycles chunk i)) [
+        let in_lane : ForcedInCycles u (task_at u target chunk) mask known (lit_at_place u blocks j bit i)
+        → (64 * chunk + i < u.cycles) × (is_set mask i ≡ true) × Forces (instance_of kind pins (lane_place target chunk i)) (passing known) (lit (cell_at (64 * chunk + i) (get_or (signals_of u.circuit.drivers target) j target)) bit) =
+        λ f. task-instance u target chunk early kind pins driver none mask known i s bit lane (subst (ForcedInCycles u (task_at u target chunk) mask known) (lit-is j i bit h) f) in
+        elim (cases_Bool (is_asked i)) [
           | inl there ↦ (
-            λ set. instance-task u target chunk early kind pins driver none known i (lit_at_place u blocks j bit i) lane (ltb-true (64 * chunk + i) u.cycles there)
+            λ set.
+                let both : (is_cycle u.cycles chunk i ≡ true) × (is_set mask i ≡ true) = and_parts (is_cycle u.cycles chunk i) (is_set mask i) there in
+                instance-task u target chunk early kind pins driver none mask known i (lit_at_place u blocks j bit i) lane (ltb-true (64 * chunk + i) u.cycles both.0) both.1
                 ((forced j i bit h lane there).0 set),
             λ f. (forced j i bit h lane there).1
-                (subst (Forces (instance_of kind pins (lane_place target chunk i)) (passing known)) (sym (lit-is j i bit h)) (in_lane f).1),
+                (subst (Forces (instance_of kind pins (lane_place target chunk i)) (passing known)) (sym (lit-is j i bit h)) (in_lane f).2),
           )
           | inr beyond ↦ (
             λ set. absurd (true≢false (sym set ∙ invalid j i bit h lane beyond)),
-            λ f. absurd (true≢false (sym (lt-ltb (64 * chunk + i) u.cycles (in_lane f).0) ∙ beyond)),
+            λ f. absurd (true≢false (sym (and_from (is_cycle u.cycles chunk i) (is_set mask i) (lt-ltb (64 * chunk + i) u.cycles (in_lane f).0) (in_lane f).1) ∙ beyond)),
           )
         ]
 
-    module _ (valid : ℕ) (valid_is : (i : ℕ) → i < 64 → is_set valid i ≡ is_cycle u.cycles chunk i)
+    module _ (valid : ℕ) (valid_is : (i : ℕ) → i < 64 → is_set valid i ≡ (is_cycle u.cycles chunk i && is_set mask i))
         (invalid : (lane j : ℕ) (bit : Bool) → lane < 64 → is_set valid lane ≡ false → is_set (word_for bit (words_at words j)) lane ≡ false) where
       pins-count : (i : ℕ) → IsPinCount kind (length (map (cell_at (64 * chunk + i)) pins))
       pins-count i = subst (IsPinCount kind) (sym (length-map pins (cell_at (64 * chunk + i)))) (pin-count u is kind pins (lane_place target chunk i) driver)
@@ -148,7 +159,7 @@ module _ (u : Unrolling) (is : IsProblem u) (target : Sig) (chunk : ℕ) (early 
           → ((lane : ℕ) (i : Instance) (cells : List Cell) (known : Lit → Bool) → lane < 64 → is_set valid lane ≡ true → IsAndLike p t i → 2 ≤ length cells
           → IsLane i cells k known lane view → (j : ℕ) (d : Cell) (bit : Bool) → j < length cells
           → IsTrue (is_set (word_for bit (words_at words j)) lane) ↔ Forces i (passing known) (lit (get_or cells j d) bit))
-          → IsForcedExactly u (task_at u target chunk) blocks view words
+          → IsForcedExactlyIn u (task_at u target chunk) mask blocks view words
       and_like-task p t rule forced =
           exact (λ j i bit h lane beyond. invalid i j bit lane (valid_is i lane ∙ beyond))
           (λ j i bit h lane there.
@@ -156,7 +167,7 @@ module _ (u : Unrolling) (is : IsProblem u) (target : Sig) (chunk : ℕ) (early 
           subst (λ l. IsTrue (bit_at_place words j bit i) ↔ Forces (instance_of kind pins (lane_place target chunk i)) (passing known) l) (lit-there j i bit h d)
           (forced i (instance_of kind pins (lane_place target chunk i)) (lane_cells u target chunk i) known lane (valid_is i lane ∙ there)
           (rule (instance_of kind pins (lane_place target chunk i)) refl (pins-count i))
-          (two-cells u is target chunk early kind pins driver gate blocks are k within at i) (at-lane i lane there) j d bit (in-cells j i h)))
+          (two-cells u is target chunk early kind pins driver gate blocks are k within at i) (at-lane i lane (and_parts (is_cycle u.cycles chunk i) (is_set mask i) there).0) j d bit (in-cells j i h)))
 
       pub parity-task : (inverted : Bool) (odd : List Bool) → odd ≡ pin_parities u.circuit.drivers target → ((i : Instance) → i.kind ≡ kind → IsPinCount kind (length i.pins) → IsXorLike inverted i)
           → ((lane : ℕ) (i : Instance) (cells : List Cell) (known : Lit → Bool) → lane < 64 → is_set valid lane ≡ true → IsXorLike inverted i
@@ -164,12 +175,12 @@ module _ (u : Unrolling) (is : IsProblem u) (target : Sig) (chunk : ℕ) (early 
           → ((j : ℕ) (d : Cell) → j < length cells → j ≢ k → get_or odd j false ≡ is_odd (get_or cells j d) i.pins)
           → (j : ℕ) (d : Cell) (bit : Bool) → j < length cells
           → IsTrue (is_set (word_for bit (words_at words j)) lane) ↔ Forces i (passing known) (lit (get_or cells j d) bit))
-          → IsForcedExactly u (task_at u target chunk) blocks view words
+          → IsForcedExactlyIn u (task_at u target chunk) mask blocks view words
       parity-task inverted odd odd_is rule forced =
           exact (λ j i bit h lane beyond. invalid i j bit lane (valid_is i lane ∙ beyond))
           (λ j i bit h lane there.
           let d : Cell = cell_at (64 * chunk + i) target in
           subst (λ l. IsTrue (bit_at_place words j bit i) ↔ Forces (instance_of kind pins (lane_place target chunk i)) (passing known) l) (lit-there j i bit h d)
           (forced i (instance_of kind pins (lane_place target chunk i)) (lane_cells u target chunk i) known lane (valid_is i lane ∙ there)
-          (rule (instance_of kind pins (lane_place target chunk i)) refl (pins-count i)) (at-lane i lane there)
+          (rule (instance_of kind pins (lane_place target chunk i)) refl (pins-count i)) (at-lane i lane (and_parts (is_cycle u.cycles chunk i) (is_set mask i) there).0)
           (λ n e below other. ap (λ (os : List Bool). get_or os n false) odd_is ∙ odd-there u is target chunk early kind pins driver gate blocks are k within at i n e below) j d bit (in-cells j i h)))

@@ -2,6 +2,7 @@ pub mod AndLikeForced
 pub mod AndLikeSet
 pub mod AndLikeWords
 pub mod BlockPlaces
+pub mod CycleMasks
 pub mod Counting
 pub mod FlipFlopBlocks
 pub mod FlipFlopForced
@@ -13,3 +14,6 @@ pub mod LaneWords
 pub mod NewLiterals
 pub mod OddWords
 pub mod ParityExact
+pub mod SettledOnce
+pub mod TaskForcing
+pub mod TaskViews

@@ -1,17 +1,17 @@
 -- What is forced is in time, and what of it the view does not have.
-use Rattle.std.proofs.Common.{ℕ, ◌≡◌, ◌+◌, ◌*◌, ◌/◌, ◌%◌, ◌<◌, ◌≤◌, ◌&&◌, Bool, true, not, List, length, get_or, set, get_or-set_other, length-set, arith, inl, inr, refl, sym, ap, ◌∙◌}
+use Rattle.std.proofs.Common.{ℕ, ◌≡◌, ◌+◌, ◌*◌, ◌/◌, ◌%◌, ◌<◌, ◌≤◌, ◌&&◌, Bool, true, not, List, length, get_or, set, get_or-set_other, length-set, arith, refl, sym, ap, ◌∙◌}
 use Rattle.std.specs.List.{AllPairs}
-use Rattle.std.proofs.lemmas.Bool.{cases_Bool, true≢false, and_parts, and_from, not-true, not_from_false, lt-ltb}
+use Rattle.std.proofs.lemmas.Bool.{and_parts, and_from, not-true, not_from_false, lt-ltb}
 use Rattle.sr_model.specs.declared.cells.Lit.{Lit}
 use Rattle.unroll.specs.declared.problem.Block.{Block}
 use Rattle.unroll.specs.declared.problem.Task.{Task}
 use Rattle.unroll.specs.declared.words.PinWord.{PinWord}
 use Rattle.unroll.specs.Bits.{is_set, word_for}
-use Rattle.unroll.specs.Problem.{Unrolling, chunk_at, sig_at, block_at, block_of, cell_of}
+use Rattle.unroll.specs.Problem.{Unrolling, chunk_at, sig_at, block_at, block_of, cell_of, HaveNoLaterBit}
 use Rattle.unroll.proofs.BlockNumbers.{block-itself}
 use Rattle.unroll.proofs.TaskCells.{role, cell-in_time}
 use Rattle.gate_rules.specs.Lanes.{words_at}
-use Rattle.gate_rules.specs.Forced.{ForcedIn, IsForcedExactly, IsNewExactly, HasNoLaterBit, bit_at_place, lit_at_place, view_has, words_of}
+use Rattle.gate_rules.specs.Forced.{ForcedIn, ForcedInCycles, IsForcedExactly, IsForcedExactlyIn, IsNewExactly, bit_at_place, lit_at_place, view_has, words_of}
 use Rattle.gate_rules.proofs.AndLikeSet.{set_next}
 use Rattle.gate_rules.proofs.BlockPlaces.{words_of-place}
 
@@ -19,16 +19,28 @@ use Rattle.gate_rules.proofs.BlockPlaces.{words_of-place}
 pub forced-in_time : (u : Unrolling) (t : Task) (known : Lit → Bool) (l : Lit) → ForcedIn u t known l → l.cell.cycle < u.cycles
 forced-in_time u t known l f = cell-in_time u f.place l.cell (role u f.place f.forces.instance l.cell f.forces.stands f.forces.forces.on_cells)
 
+-- what is forced in the cycles of a mask is forced, and all is in those of the mask that has each
+pub in_cycles-forced : (u : Unrolling) (t : Task) (mask : ℕ) (known : Lit → Bool) (l : Lit) → ForcedInCycles u t mask known l → ForcedIn u t known l
+in_cycles-forced u t mask known l f = record { place = f.place; belongs = f.belongs; forces = f.forces }
+
+pub forced-in_cycles : (u : Unrolling) (t : Task) (mask : ℕ) (known : Lit → Bool) (l : Lit) → ((i : ℕ) → i < 64 → is_set mask i ≡ true) → ForcedIn u t known l → ForcedInCycles u t mask known l
+forced-in_cycles u t mask known l all f = record { place = f.place; belongs = f.belongs; in_mask = all (f.place.cycle % 64) (below f.place.cycle); forces = f.forces } where
+  below : (n : ℕ) → n % 64 < 64
+  below n = omega arith
+
 module _ (u : Unrolling) (t : Task) (blocks : List Block) (view words : List PinWord) where
-  pub no_later : IsForcedExactly u t blocks view words → HasNoLaterBit u blocks words
-  no_later exact j i bit within lane late =
-      elim (cases_Bool (bit_at_place words j bit i)) [
-        | inr unset ↦ unset
-        | inl set ↦
-            let l : Lit = lit_at_place u blocks j bit i in
-            let early : l.cell.cycle < u.cycles = forced-in_time u t (view_has u blocks view) l ((exact j i bit within lane).0 set) in
-            absurd (true≢false (sym (lt-ltb l.cell.cycle u.cycles early) ∙ late))
-      ]
+  -- all cycles
+  pub exactly-all : (mask : ℕ) → ((i : ℕ) → i < 64 → is_set mask i ≡ true) → IsForcedExactlyIn u t mask blocks view words → IsForcedExactly u t blocks view words
+  exactly-all mask all exact j i bit within lane =
+      let l : Lit = lit_at_place u blocks j bit i in (
+        λ set. in_cycles-forced u t mask (view_has u blocks view) l ((exact j i bit within lane).0 set),
+        λ f. (exact j i bit within lane).1 (forced-in_cycles u t mask (view_has u blocks view) l all f),
+      )
+
+  pub no_later : (mask : ℕ) → IsForcedExactlyIn u t mask blocks view words → HaveNoLaterBit u blocks words
+  no_later mask exact j within bit i lane set =
+      let l : Lit = lit_at_place u blocks j bit i in
+      lt-ltb l.cell.cycle u.cycles (forced-in_time u t (view_has u blocks view) l (in_cycles-forced u t mask (view_has u blocks view) l ((exact j i bit within lane).0 set)))
 
   -- in a cycle that is there, the view has the literal of a bit that is set
   pub view-at : AllPairs (λ a b. a.0 < b.0) blocks → length view ≡ length blocks → (j i : ℕ) (bit : Bool) → j < length blocks → i < 64

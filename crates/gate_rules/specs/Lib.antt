@@ -2,6 +2,7 @@ pub mod AndLikeBits
 pub mod FlipFlopBits
 pub mod Forced
 pub mod Lanes
+pub mod Laws
 pub mod OddPlaces
 pub mod Rules
 pub mod Ticks

@@ -146,7 +146,7 @@ pub(crate) fn force_and_like(
     requires target { target < length view.now }
     requires size { length out.old.items ≡ length view.now }
     ensures size { length out.new.items ≡ length view.now }
-    ensures room { out.old.room ≤ out.new.room }
+    ensures room { out.new.room ≡ out.old.room }
     ensures forced { (lane : ℕ) (i : Instance) (cells : List Cell) (known : Lit → Bool) → lane < 64 → is_set valid lane ≡ true → IsAndLike gate.pins gate.target i → 2 ≤ length cells
         → IsLane i cells target known lane view.now → (j : ℕ) (d : Cell) (bit : Bool) → j < length cells
         → IsTrue (is_set (word_for bit (words_at out.new.items j)) lane) ↔ Forces i (passing known) (lit (slice_index_or cells j d) bit) }

@@ -6,7 +6,7 @@ ghost use Rattle.netlist.specs.Wiring.{driver_at, is_flip_flop};
 ghost use Rattle.unroll.specs.Bits.{is_set, word_for};
 ghost use Rattle.unroll.specs.Problem.{chunks_in, block_at};
 ghost use Rattle.unroll.specs.Tasks.{task_at, blocks_from};
-ghost use Rattle.gate_rules.specs.Forced.{ForcedIn, words_of, view_has, bit_at_place, lit_at_place};
+ghost use Rattle.gate_rules.specs.Forced.{ForcedInCycles, words_of, view_has, bit_at_place, lit_at_place};
 ghost use Rattle.gate_rules.specs.FlipFlopBits.{data_pin, is_shared, is_bit_of};
 
 use sr_model::Sig;
@@ -106,13 +106,14 @@ fn shared_bits(pin: u64, own: u64, next: u64, valid: u64) -> u64
     (pin | ((own >> 1) | (next << 63))) & valid
 }
 
-/// What a flip-flop forces in a chunk: the words of each of its blocks are set to the literals that are forced there.
+/// What a flip-flop forces in the cycles of a mask of a chunk: the words of each of its blocks are set to the literals that are forced there.
 ///
 /// The instances of the chunk are those whose data pin is in it; the last cycle has none. There is no division.
 pub(crate) fn force_flip_flop(
     p: &Problem,
     target: Sig,
     chunk: u32,
+    mask: u64,
     blocks: &Blocks,
     view: &PinWords,
     out: &mut PinWords,
@@ -124,12 +125,12 @@ pub(crate) fn force_flip_flop(
     requires view { length view.now.items ≡ length blocks.now.items }
     requires out { length out.old.items ≡ length blocks.now.items }
     ensures size { length out.new.items ≡ length blocks.now.items }
-    ensures room { out.old.room ≤ out.new.room }
+    ensures room { out.new.room ≡ out.old.room }
     ensures forced { (j i : ℕ) (bit : Bool) → j < length blocks.now.items → i < 64
-        → IsTrue (bit_at_place out.new.items j bit i) ↔ ForcedIn p.now (task_at p.now target chunk) (view_has p.now blocks.now.items view.now.items) (lit_at_place p.now blocks.now.items j bit i) }
+        → IsTrue (bit_at_place out.new.items j bit i) ↔ ForcedInCycles p.now (task_at p.now target chunk) mask (view_has p.now blocks.now.items view.now.items) (lit_at_place p.now blocks.now.items j bit i) }
 {
     let cells = CellBlocks::new(p, target, chunk);
-    let shared = cells.shared(p.valid_next_bits(chunk), blocks, view);
+    let shared = cells.shared(p.valid_next_bits(chunk) & mask, blocks, view);
     for (place, block) in blocks.as_slice().iter().enumerate() {
         out.set(place, cells.words_for(*block, shared));
     }

@@ -4,7 +4,7 @@ ghost use Rattle.std.specs.List.{Contains};
 ghost use Rattle.netlist.specs.Wiring.{driver_at, is_gate, kind_of};
 ghost use Rattle.unroll.specs.Problem.{chunks_in};
 ghost use Rattle.unroll.specs.Tasks.{task_at, blocks_from};
-ghost use Rattle.gate_rules.specs.Forced.{IsForcedExactly};
+ghost use Rattle.gate_rules.specs.Forced.{IsForcedExactlyIn};
 ghost use Rattle.gate_rules.specs.Rules.{IsRuleOf};
 
 use crate::and_like::{AndLike, force_and_like};
@@ -61,13 +61,14 @@ fn place_of(blocks: &[Block], block: Block) -> usize
     }
 }
 
-/// What a gate forces in a chunk: the words of each of its blocks are set to the literals that its instances in the chunk's cycles force from those of `view`.
+/// What a gate forces in a chunk: the words of each of its blocks are set to the literals that its instances in the chunk's cycles of the mask force from those of `view`.
 ///
 /// `view` has the words of the blocks, in their order. The cost is a few walks over the blocks.
 pub(crate) fn force_gate(
     p: &Problem,
     target: Sig,
     chunk: u32,
+    mask: u64,
     blocks: &Blocks,
     view: &PinWords,
     out: &mut PinWords,
@@ -79,12 +80,12 @@ pub(crate) fn force_gate(
     requires view { length view.now.items ≡ length blocks.now.items }
     requires out { length out.old.items ≡ length blocks.now.items }
     ensures size { length out.new.items ≡ length blocks.now.items }
-    ensures room { out.old.room ≤ out.new.room }
-    ensures forced { IsForcedExactly p.now (task_at p.now target chunk) blocks.now.items view.now.items out.new.items }
+    ensures room { out.new.room ≡ out.old.room }
+    ensures forced { IsForcedExactlyIn p.now (task_at p.now target chunk) mask blocks.now.items view.now.items out.new.items }
 {
     let net = p.net();
     let place = place_of(blocks.as_slice(), p.block(target, chunk));
-    let valid = p.valid_bits(chunk);
+    let valid = p.valid_bits(chunk) & mask;
     match rule_of(gate_kind(net, target)) {
         Rule::AndLike(gate) => force_and_like(gate, place, valid, view.as_slice(), out),
         Rule::Parity { inverted } => {

@@ -189,7 +189,7 @@ pub(crate) fn force_parity(
     requires odd { length odd.now ≡ length view.now }
     requires size { length out.old.items ≡ length view.now }
     ensures size { length out.new.items ≡ length view.now }
-    ensures room { out.old.room ≤ out.new.room }
+    ensures room { out.new.room ≡ out.old.room }
     ensures forced { (lane : ℕ) (i : Instance) (cells : List Cell) (known : Lit → Bool) → lane < 64 → is_set valid lane ≡ true → IsXorLike inverted i
         → IsLane i cells target known lane view.now
         → ((j : ℕ) (d : Cell) → j < length cells → j ≢ target → slice_index_or odd.now j false ≡ is_odd (slice_index_or cells j d) i.pins)

@@ -1,10 +1,10 @@
 //! What a task forces, and what of it is new.
-ghost use Rattle.std.specs.Prelude.{ℕ, ◌≡◌, ◌<◌, ◌≤◌, ◌&&◌, Bool, true, not, length};
-ghost use Rattle.unroll.specs.Problem.{chunks_in};
+ghost use Rattle.std.specs.Prelude.{ℕ, ◌≡◌, ◌<◌, ◌&&◌, Bool, true, not, length};
+ghost use Rattle.unroll.specs.Problem.{chunks_in, HaveNoLaterBit};
 ghost use Rattle.unroll.specs.Tasks.{IsTask, task_at, blocks_of, blocks_from};
 ghost use Rattle.netlist.specs.Wiring.{driver_at, is_driven};
 ghost use Rattle.unroll.specs.Bits.{is_set, word_for};
-ghost use Rattle.gate_rules.specs.Forced.{IsForcedExactly, IsNewExactly, HasNoLaterBit, bit_at_place};
+ghost use Rattle.gate_rules.specs.Forced.{IsForcedExactly, IsForcedExactlyIn, IsNewExactly, bit_at_place};
 ghost use Rattle.gate_rules.specs.Ticks.{ticked};
 
 use crate::flip_flops::force_flip_flop;
@@ -24,9 +24,9 @@ pub fn forced(p: &Problem, t: Task, blocks: &Blocks, view: &PinWords, out: &mut 
     requires view { length view.now.items ≡ length blocks.now.items }
     requires out { length out.old.items ≡ length blocks.now.items }
     ensures size { length out.new.items ≡ length blocks.now.items }
-    ensures room { out.old.room ≤ out.new.room }
+    ensures room { out.new.room ≡ out.old.room }
     ensures forced { IsForcedExactly p.now t blocks.now.items view.now.items out.new.items }
-    ensures later { HasNoLaterBit p.now blocks.now.items out.new.items }
+    ensures later { HaveNoLaterBit p.now blocks.now.items out.new.items }
 {
     let target = Block(t.0);
     forced_in_chunk(p, p.sig_of(target), p.chunk_of(target), blocks, view, out)
@@ -48,13 +48,70 @@ pub fn forced_in_chunk(
     requires view { length view.now.items ≡ length blocks.now.items }
     requires out { length out.old.items ≡ length blocks.now.items }
     ensures size { length out.new.items ≡ length blocks.now.items }
-    ensures room { out.old.room ≤ out.new.room }
+    ensures room { out.new.room ≡ out.old.room }
     ensures forced { IsForcedExactly p.now (task_at p.now target chunk) blocks.now.items view.now.items out.new.items }
-    ensures later { HasNoLaterBit p.now blocks.now.items out.new.items }
+    ensures later { HaveNoLaterBit p.now blocks.now.items out.new.items }
+{
+    forced_in_cycles_in_chunk(p, target, chunk, u64::MAX, blocks, view, out)
+}
+
+/// What a task forces at its instances in the cycles of a mask: as `forced`, of these instances alone. Bit i of the mask is that of cycle `64 * chunk + i` of the
+/// task's chunk, and an instance is in the cycle of its place, which is its pins'.
+///
+/// So the mask `1 << (cycle % 64)` asks for the instance at one place. Bits of cycles without an instance ask for nothing. It costs what `forced` costs.
+pub fn forced_in_cycles(
+    p: &Problem,
+    t: Task,
+    mask: u64,
+    blocks: &Blocks,
+    view: &PinWords,
+    out: &mut PinWords,
+)
+    requires task { IsTask p.now t }
+    requires blocks { blocks.now.items ≡ blocks_of p.now t }
+    requires view { length view.now.items ≡ length blocks.now.items }
+    requires out { length out.old.items ≡ length blocks.now.items }
+    ensures size { length out.new.items ≡ length blocks.now.items }
+    ensures room { out.new.room ≡ out.old.room }
+    ensures forced { IsForcedExactlyIn p.now t mask blocks.now.items view.now.items out.new.items }
+    ensures later { HaveNoLaterBit p.now blocks.now.items out.new.items }
+{
+    let target = Block(t.0);
+    forced_in_cycles_in_chunk(
+        p,
+        p.sig_of(target),
+        p.chunk_of(target),
+        mask,
+        blocks,
+        view,
+        out,
+    )
+}
+
+/// The same for the task of a target in a chunk; there is no division.
+pub fn forced_in_cycles_in_chunk(
+    p: &Problem,
+    target: Sig,
+    chunk: u32,
+    mask: u64,
+    blocks: &Blocks,
+    view: &PinWords,
+    out: &mut PinWords,
+)
+    requires target { target.0 < length p.now.circuit.drivers }
+    requires driven { is_driven (driver_at p.now.circuit.drivers target.0) ≡ true }
+    requires chunk { chunk < chunks_in p.now }
+    requires blocks { blocks.now.items ≡ blocks_from p.now target chunk }
+    requires view { length view.now.items ≡ length blocks.now.items }
+    requires out { length out.old.items ≡ length blocks.now.items }
+    ensures size { length out.new.items ≡ length blocks.now.items }
+    ensures room { out.new.room ≡ out.old.room }
+    ensures forced { IsForcedExactlyIn p.now (task_at p.now target chunk) mask blocks.now.items view.now.items out.new.items }
+    ensures later { HaveNoLaterBit p.now blocks.now.items out.new.items }
 {
     match p.net().kind_of(target) {
-        Some(Kind::Dff) => force_flip_flop(p, target, chunk, blocks, view, out),
-        _ => force_gate(p, target, chunk, blocks, view, out),
+        Some(Kind::Dff) => force_flip_flop(p, target, chunk, mask, blocks, view, out),
+        _ => force_gate(p, target, chunk, mask, blocks, view, out),
     }
 }
 
@@ -73,9 +130,9 @@ pub fn apply<T: Tally>(
     requires view { length view.now.items ≡ length blocks.now.items }
     requires out { length out.old.items ≡ length blocks.now.items }
     ensures size { length out.new.items ≡ length blocks.now.items }
-    ensures room { out.old.room ≤ out.new.room }
+    ensures room { out.new.room ≡ out.old.room }
     ensures new { IsNewExactly p.now t blocks.now.items view.now.items out.new.items }
-    ensures later { HasNoLaterBit p.now blocks.now.items out.new.items }
+    ensures later { HaveNoLaterBit p.now blocks.now.items out.new.items }
     ensures tally { T.number tally.new ≡ ticked (T.number tally.old) }
 {
     let target = Block(t.0);
@@ -107,9 +164,9 @@ pub fn apply_in_chunk<T: Tally>(
     requires view { length view.now.items ≡ length blocks.now.items }
     requires out { length out.old.items ≡ length blocks.now.items }
     ensures size { length out.new.items ≡ length blocks.now.items }
-    ensures room { out.old.room ≤ out.new.room }
+    ensures room { out.new.room ≡ out.old.room }
     ensures new { IsNewExactly p.now (task_at p.now target chunk) blocks.now.items view.now.items out.new.items }
-    ensures later { HasNoLaterBit p.now blocks.now.items out.new.items }
+    ensures later { HaveNoLaterBit p.now blocks.now.items out.new.items }
     ensures tally { T.number tally.new ≡ ticked (T.number tally.old) }
 {
     tally.tick();
@@ -121,7 +178,7 @@ pub fn apply_in_chunk<T: Tally>(
 fn take_out(view: &PinWords, out: &mut PinWords)
     requires { length view.now.items ≡ length out.old.items }
     ensures size { length out.new.items ≡ length out.old.items }
-    ensures room { out.old.room ≤ out.new.room }
+    ensures room { out.new.room ≡ out.old.room }
     ensures taken { (j i : ℕ) (bit : Bool) → j < length view.now.items → i < 64
         → bit_at_place out.new.items j bit i ≡ (bit_at_place out.old.items j bit i && not (bit_at_place view.now.items j bit i)) }
 {

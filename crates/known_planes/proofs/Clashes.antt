@@ -8,14 +8,15 @@ use Rattle.std.proofs.Math.ListN.{get_or-eq_default}
 use Rattle.std.proofs.Math.Nat.{mul-le-mul_right}
 use Rattle.sr_model.specs.declared.cells.Sig.{Sig}
 use Rattle.sr_model.specs.declared.cells.Cell.{Cell}
-use Rattle.sr_model.specs.Closure.{HasBoth, CellLe}
+use Rattle.sr_model.specs.Order.{CellLe}
+use Rattle.sr_model.specs.Closure.{HasBoth, IsLeastClash}
 use Rattle.unroll.specs.declared.words.PinWord.{PinWord}
 use Rattle.unroll.specs.Bits.{is_set, word_for}
 use Rattle.unroll.specs.Problem.{Unrolling, signals_in, chunks_in, block_at, block_of, bit_of}
 use Rattle.unroll.proofs.WordBits.{is_set_or, is_set_and, is_set_zero}
 use Rattle.unroll.proofs.BlockNumbers.{block-chunk, block-within, cycle-chunk}
 use Rattle.known_planes.specs.Planes.{PlaneSet, no_bits, words_at, pair_in, lits, IsOf}
-use Rattle.known_planes.specs.Clash.{IsLeastClash, has_both_at}
+use Rattle.known_planes.specs.Clash.{has_both_at}
 
 -- the bits of a word are those that one of the first signals has in both words of the chunk
 abbrev pub HasEach : PlaneSet → ℕ → ℕ → ℕ → Type 0
@@ -124,7 +125,7 @@ module _ (u : Unrolling) (planes : PlaneSet) (of : IsOf u planes) where
       let parts : (is_set (pair_in planes s.0 chunk).zero i ≡ true) × (is_set (pair_in planes s.0 chunk).one i ≡ true) = and_parts (is_set (pair_in planes s.0 chunk).zero i) (is_set (pair_in planes s.0 chunk).one i) both in
       let zero : is_set (words_at planes (block_at u s chunk)).zero i ≡ true = ap (λ (w : PinWord). is_set w.zero i) (sym (in-block s.0 chunk)) ∙ parts.0 in
       let one : is_set (words_at planes (block_at u s chunk)).one i ≡ true = ap (λ (w : PinWord). is_set w.one i) (sym (in-block s.0 chunk)) ∙ parts.1 in
-      let cycle : nat_lt (64 * chunk + i) u.cycles ≡ true = subst (λ n. nat_lt (64 * n + i) u.cycles ≡ true) (block-chunk u s chunk k) (of.no_further (block_at u s chunk) (block-within u s chunk k h) false i few zero) in
+      let cycle : nat_lt (64 * chunk + i) u.cycles ≡ true = subst (λ n. nat_lt (64 * n + i) u.cycles ≡ true) (block-chunk u s chunk k) (of.no_later (block_at u s chunk) (block-within u s chunk k h) false i few zero) in
       (and_from (nat_lt (64 * chunk + i) u.cycles) (has-bit false) cycle (there false zero), and_from (nat_lt (64 * chunk + i) u.cycles) (has-bit true) cycle (there true one))
     where
       has-bit : Bool → Bool

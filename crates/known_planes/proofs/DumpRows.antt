@@ -12,10 +12,10 @@ use Rattle.dump_reader.specs.declared.dump.Tri.{Tri}
 use Rattle.dump_reader.specs.Recording.{bit_of}
 use Rattle.unroll.specs.declared.words.PinWord.{PinWord}
 use Rattle.unroll.specs.Bits.{is_set, word_for}
-use Rattle.unroll.specs.Problem.{Unrolling, signals_in, chunks_in, block_at, block_of, chunk_at, bit_of as bit_in}
+use Rattle.unroll.specs.Problem.{Unrolling, signals_in, chunks_in, block_at, block_of, chunk_at, bit_of as bit_in, HasNoLaterBit}
 use Rattle.unroll.proofs.WordBits.{is_set_or}
 use Rattle.unroll.proofs.BlockNumbers.{block-chunk, block-within, cycle-chunk}
-use Rattle.known_planes.specs.Planes.{PlaneSet, words_at, with_words, has, joined, HasNoFurtherBit, IsOf}
+use Rattle.known_planes.specs.Planes.{PlaneSet, words_at, with_words, has, joined, IsOf}
 use Rattle.known_planes.proofs.DumpWords.{no-bit-past, chunk-cell}
 use Rattle.known_planes.proofs.Members.{has-there, has-elsewhere}
 
@@ -29,36 +29,23 @@ or_false true b h = inl refl
 or_false false b h = inr h
 
 pub joined-none : (u : Unrolling) (planes : PlaneSet) (s : Sig) (chunk : ℕ) (old words : PinWord) → IsOf u planes → s.0 < signals_in u → chunk < chunks_in u
-    → old ≡ words_at planes (block_at u s chunk) → HasNoFurtherBit u chunk words → HasNoFurtherBit u chunk (joined old words)
+    → old ≡ words_at planes (block_at u s chunk) → HasNoLaterBit u.cycles chunk words → HasNoLaterBit u.cycles chunk (joined old words)
 joined-none u planes s chunk old words of h k is none bit i few set =
     elim (or_false (is_set (word_for bit old) i) (is_set (word_for bit words) i) (sym (joined-bit old words bit i) ∙ set)) [
       | inl first ↦ before bit i few first
       | inr second ↦ none bit i few second
     ]
   where
-    at : HasNoFurtherBit u (chunk_at u (block_at u s chunk)) (words_at planes (block_at u s chunk))
-    at = of.no_further (block_at u s chunk) (block-within u s chunk k h)
+    at : HasNoLaterBit u.cycles (chunk_at u (block_at u s chunk)) (words_at planes (block_at u s chunk))
+    at = of.no_later (block_at u s chunk) (block-within u s chunk k h)
 
-    before : HasNoFurtherBit u chunk old
-    before = subst (HasNoFurtherBit u chunk) (sym is) (subst (λ n. HasNoFurtherBit u n (words_at planes (block_at u s chunk))) (block-chunk u s chunk k) at)
+    before : HasNoLaterBit u.cycles chunk old
+    before = subst (HasNoLaterBit u.cycles chunk) (sym is) (subst (λ n. HasNoLaterBit u.cycles n (words_at planes (block_at u s chunk))) (block-chunk u s chunk k) at)
 
 -- the planes have the old literals and those of a row's first chunks
 abbrev pub HasChunks : Unrolling → PlaneSet → Sig → List Tri → ℕ → PlaneSet → Type 0
 HasChunks u old s cells chunk planes =
     (l : Lit) → has u planes l ≡ (has u old l || (eqb s.0 l.cell.sig.0 && ltb (l.cell.cycle / 64) chunk && is_bit (slice_get (map bit_of cells) l.cell.cycle) l.bit))
-
--- the words of a row's cells in a chunk have no further bit
-pub cells-none : (u : Unrolling) (chunk : ℕ) (cells : List Tri) (start end : ℕ) (words : PinWord) → start ≡ 64 * chunk → end ≡ min (length cells) (start + 64) → length cells ≡ u.cycles
-    → ((bit : Bool) (i : ℕ) → is_set (word_for bit words) i ≡ is_bit (slice_get (map bit_of (slice_range cells start end)) i) bit)
-    → HasNoFurtherBit u chunk words
-cells-none u chunk cells start end words start_is end_is size says bit i few set =
-    elim (cases_lt (64 * chunk + i) u.cycles) [
-      | inl h ↦ lt-ltb (64 * chunk + i) u.cycles h
-      | inr past ↦
-          let none : is_bit (slice_get (map bit_of cells) (start + i)) bit ≡ false = no-bit-past cells (start + i) bit (omega (arith, start_is, size, past)) in
-          let same : is_set (word_for bit words) i ≡ is_bit (slice_get (map bit_of cells) (start + i)) bit = says bit i ∙ ap (λ x. is_bit x bit) (chunk-cell cells start end i end_is few) in
-          absurd (cc (none, same, set))
-    ]
 
 distribute : (e o w : Bool) → (e && (o || w)) ≡ ((e && o) || (e && w))
 distribute true o w = refl

@@ -60,21 +60,6 @@ module _ (signals chunks : ℕ) (flat : List ℕ) (laid : IsLaidOut signals chun
       let below : place_of signals s chunk + 1 < 2 * (signals * chunks) = place-within signals chunks s chunk h k in
       omega (arith, size, below)
 
-  pub laid-written : IsLaidOut signals chunks (set (set flat (place_of signals s chunk) z) (place_of signals s chunk + 1) o)
-  laid-written =
-      let below : place_of signals s chunk + 1 < 2 * (signals * chunks) = place-within signals chunks s chunk h k in
-      record {
-        size = length-set (set flat (place_of signals s chunk) z) (place_of signals s chunk + 1) o ∙ length-set flat (place_of signals s chunk) z ∙ laid.size;
-        last =
-            get_or-set_other (set flat (place_of signals s chunk) z) (place_of signals s chunk + 1) (2 * (signals * chunks)) o 1 (λ e. omega (arith, e, below))
-            ∙ get_or-set_other flat (place_of signals s chunk) (2 * (signals * chunks)) z 1 (λ e. omega (arith, e, below))
-            ∙ laid.last;
-        few_signals = laid.few_signals;
-        some_chunks = laid.some_chunks;
-        few_chunks = laid.few_chunks;
-        few_blocks = laid.few_blocks;
-      }
-
   -- what is read at the place
   read-there : pair_at (set (set flat (place_of signals s chunk) z) (place_of signals s chunk + 1) o) (place_of signals s chunk) ≡ record { zero = z; one = o }
   read-there =
@@ -163,13 +148,3 @@ pair-written signals chunks flat planes laid view s chunk h k place at pair =
     let same : words_from signals chunks (set (set flat place pair.zero) (place + 1) pair.one) ≡ set (words_from signals chunks flat) (s * chunks + chunk) pair =
     there ∙ words-written signals chunks flat laid s chunk s_in chunk_in pair.zero pair.one in
     planes-of signals chunks _ _ same ∙ ap (λ (p : PlaneSet). with-pair p (s * p.chunks + chunk) pair) view
-
--- it stays laid out
-pub laid-after : (signals chunks : ℕ) (flat : List ℕ) (planes : PlaneSet) → IsLaidOut signals chunks flat
-    → record { signals = signals; chunks = chunks; words = words_from signals chunks flat } ≡ planes
-    → (s chunk : ℕ) → s < planes.signals → chunk < planes.chunks → (place : ℕ) → place ≡ place_of signals s chunk → (pair : PinWord)
-    → IsLaidOut signals chunks (set (set flat place pair.zero) (place + 1) pair.one)
-laid-after signals chunks flat planes laid view s chunk h k place at pair =
-    let s_in : s < signals = subst (λ (p : PlaneSet). s < p.signals) (sym view) h in
-    let chunk_in : chunk < chunks = subst (λ (p : PlaneSet). chunk < p.chunks) (sym view) k in
-    subst (λ n. IsLaidOut signals chunks (set (set flat n pair.zero) (n + 1) pair.one)) (sym at) (laid-written signals chunks flat laid s chunk s_in chunk_in pair.zero pair.one)

@@ -7,3 +7,4 @@ pub mod DumpRows
 pub mod Clashes
 pub mod RowCounts
 pub mod PlanesLaws
+pub mod CountLaws

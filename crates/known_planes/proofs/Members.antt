@@ -12,10 +12,10 @@ use Rattle.sr_model.specs.declared.cells.Lit.{Lit}
 use Rattle.unroll.specs.declared.problem.Block.{Block}
 use Rattle.unroll.specs.declared.words.PinWord.{PinWord}
 use Rattle.unroll.specs.Bits.{is_set, is_cycle, word_for}
-use Rattle.unroll.specs.Problem.{Unrolling, signals_in, chunks_in, blocks_in, block_at, block_of, sig_at, chunk_at, bit_of}
+use Rattle.unroll.specs.Problem.{Unrolling, signals_in, chunks_in, blocks_in, block_at, block_of, chunk_at, bit_of, HasNoLaterBit}
 use Rattle.unroll.proofs.WordBits.{is_set_zero, is_set_and}
-use Rattle.unroll.proofs.BlockNumbers.{block-chunk, block-within, block-itself, cycle-chunk}
-use Rattle.known_planes.specs.Planes.{PlaneSet, no_bits, words_at, with_words, pair_in, has, HasNoFurtherBit, IsOf}
+use Rattle.unroll.proofs.BlockNumbers.{block-chunk, block-within, cycle-chunk}
+use Rattle.known_planes.specs.Planes.{PlaneSet, no_bits, words_at, with_words, pair_in, has, IsOf}
 use Rattle.known_planes.specs.Layout.{words_from, pair_of, IsLaidOut}
 use Rattle.known_planes.proofs.Layouts.{over, words-size, words-by-number}
 
@@ -27,45 +27,37 @@ pub words-elsewhere : (planes : PlaneSet) (b a : Block) (w : PinWord) → (a.0 �
 words-elsewhere planes b a w apart = get_or-set_other planes.words b.0 a.0 w no_bits apart
 
 -- the planes stay those of the problem
-pub of-with : (u : Unrolling) (planes : PlaneSet) (b : Block) (w : PinWord) → IsOf u planes → b.0 < blocks_in u → HasNoFurtherBit u (chunk_at u b) w → IsOf u (with_words planes b w)
+pub of-with : (u : Unrolling) (planes : PlaneSet) (b : Block) (w : PinWord) → IsOf u planes → b.0 < blocks_in u → HasNoLaterBit u.cycles (chunk_at u b) w → IsOf u (with_words planes b w)
 of-with u planes b w of within none =
     record {
       signals = of.signals;
       chunks = of.chunks;
       blocks = length-set planes.words b.0 w ∙ of.blocks;
-      no_further = each;
+      no_later = each;
     }
   where
-    each : (a : Block) → a.0 < blocks_in u → HasNoFurtherBit u (chunk_at u a) (words_at (with_words planes b w) a)
+    each : (a : Block) → a.0 < blocks_in u → HasNoLaterBit u.cycles (chunk_at u a) (words_at (with_words planes b w) a)
     each a h =
         elim (cases_eq a.0 b.0) [
           | inl same ↦
               let one : b ≡ a = ap (λ n. record { 0 = n }) (sym same) in
               let there : words_at (with_words planes b w) b ≡ w = words-there planes b w (subst (λ n. b.0 < n) (sym of.blocks) within) in
-              subst (λ (x : Block). HasNoFurtherBit u (chunk_at u x) (words_at (with_words planes b w) x)) one (subst (HasNoFurtherBit u (chunk_at u b)) (sym there) none)
-          | inr other ↦ subst (HasNoFurtherBit u (chunk_at u a)) (sym (words-elsewhere planes b a w other)) (of.no_further a h)
+              subst (λ (x : Block). HasNoLaterBit u.cycles (chunk_at u x) (words_at (with_words planes b w) x)) one (subst (HasNoLaterBit u.cycles (chunk_at u b)) (sym there) none)
+          | inr other ↦ subst (HasNoLaterBit u.cycles (chunk_at u a)) (sym (words-elsewhere planes b a w other)) (of.no_later a h)
         ]
 
 -- the same by signal and chunk
 pub of-with_pair : (u : Unrolling) (planes : PlaneSet) (s : Sig) (chunk : ℕ) (w : PinWord) → IsOf u planes → s.0 < signals_in u → chunk < chunks_in u
-    → HasNoFurtherBit u chunk w → (new : PlaneSet) → new ≡ with_words planes (block_at u s chunk) w → IsOf u new
+    → HasNoLaterBit u.cycles chunk w → (new : PlaneSet) → new ≡ with_words planes (block_at u s chunk) w → IsOf u new
 of-with_pair u planes s chunk w of h k none new is =
     subst (IsOf u) (sym is)
-    (of-with u planes (block_at u s chunk) w of (block-within u s chunk k h) (subst (λ n. HasNoFurtherBit u n w) (sym (block-chunk u s chunk k)) none))
+    (of-with u planes (block_at u s chunk) w of (block-within u s chunk k h) (subst (λ n. HasNoLaterBit u.cycles n w) (sym (block-chunk u s chunk k)) none))
 
 -- the words that are set for a signal and a chunk are those of their block
 pub set-is : (u : Unrolling) (planes : PlaneSet) (s : Sig) (chunk : ℕ) (w : PinWord) → IsOf u planes → (new : PlaneSet)
     → new ≡ record { signals = planes.signals; chunks = planes.chunks; words = set planes.words (s.0 * planes.chunks + chunk) w }
     → new ≡ with_words planes (block_at u s chunk) w
 set-is u planes s chunk w of new is = is ∙ ap (λ n. with_words planes (record { 0 = s.0 * n + chunk }) w) of.chunks
-
--- and those of a block
-pub set-block : (u : Unrolling) (planes : PlaneSet) (b : Block) (w : PinWord) → IsOf u planes → (s : Sig) → s ≡ sig_at u b → (chunk : ℕ) → chunk ≡ chunk_at u b → (new : PlaneSet)
-    → new ≡ record { signals = planes.signals; chunks = planes.chunks; words = set planes.words (s.0 * planes.chunks + chunk) w }
-    → new ≡ with_words planes b w
-set-block u planes b w of s s_is chunk chunk_is new is =
-    set-is u planes s chunk w of new is ∙ ap (λ t. with_words planes (block_at u t chunk) w) s_is
-    ∙ ap (λ n. with_words planes (block_at u (sig_at u b) n) w) chunk_is ∙ ap (λ x. with_words planes x w) (block-itself u b)
 
 -- what the planes have of the cells whose words are new, and of the others
 pub has-there : (u : Unrolling) (planes : PlaneSet) (s : Sig) (chunk : ℕ) (w : PinWord) → IsOf u planes → s.0 < signals_in u → chunk < chunks_in u → (l : Lit)
@@ -141,7 +133,7 @@ module _ (u : Unrolling) (signals chunks n : ℕ) (flat : List ℕ) (signals_is 
         signals = signals_is;
         chunks = chunks_is;
         blocks = words-size signals chunks flat ∙ ap (λ m. m * chunks) signals_is ∙ ap (λ m. signals_in u * m) chunks_is;
-        no_further = λ b h bit i few set. absurd (cc (bit-unset b bit i, set));
+        no_later = λ b h bit i few set. absurd (cc (bit-unset b bit i, set));
       }
 
   pub empty-has : (l : Lit) → has u (over signals chunks (words_from signals chunks flat)) l ≡ false
@@ -152,6 +144,6 @@ module _ (u : Unrolling) (signals chunks n : ℕ) (flat : List ℕ) (signals_is 
       and-false false = refl
 
 -- words without the bits of cycles that are not there
-pub masked-none : (u : Unrolling) (chunk z o valid : ℕ) → ((i : ℕ) → i < 64 → is_set valid i ≡ is_cycle u.cycles chunk i) → HasNoFurtherBit u chunk (record { zero = bit_and z valid; one = bit_and o valid })
+pub masked-none : (u : Unrolling) (chunk z o valid : ℕ) → ((i : ℕ) → i < 64 → is_set valid i ≡ is_cycle u.cycles chunk i) → HasNoLaterBit u.cycles chunk (record { zero = bit_and z valid; one = bit_and o valid })
 masked-none u chunk z o valid says true i few set = sym (says i few) ∙ (and_parts (is_set o i) (is_set valid i) (sym (is_set_and o valid i) ∙ set)).1
 masked-none u chunk z o valid says false i few set = sym (says i few) ∙ (and_parts (is_set z i) (is_set valid i) (sym (is_set_and z valid i) ∙ set)).1

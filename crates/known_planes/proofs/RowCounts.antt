@@ -18,7 +18,7 @@ use Rattle.unroll.specs.Problem.{Unrolling, signals_in, chunks_in, block_at}
 use Rattle.unroll.proofs.WordBits.{is_set_or}
 use Rattle.unroll.proofs.BlockNumbers.{block-chunk, block-within}
 use Rattle.known_planes.specs.Planes.{PlaneSet, no_bits, words_at, pair_in, has, IsOf}
-use Rattle.known_planes.specs.Counts.{bits_in, is_known, cells_where, known_flip_flop_count, literals_of, literal_count, known_bits_at, literal_bits_at}
+use Rattle.known_planes.specs.Counts.{bits_in, is_known, cells_where, known_count, literals_of, literal_count, known_bits_at, literal_bits_at}
 use Rattle.known_planes.proofs.Sums.{sum-agree, sum-moved, sum-parts, sum-more, sum-none, sum-agree_on, sum-turned, two-sums}
 
 plus-zero : (n : ℕ) → n + 0 ≡ n
@@ -37,7 +37,7 @@ suc-more : (k : ℕ) → suc k ≡ k + 1
 suc-more k = omega arith
 
 -- a sum in rows of w
-rows-sum : (w : ℕ) (g : ℕ → ℕ) (k : ℕ) → sum_by (λ c. sum_by (λ i. g (w * c + i)) (range_with_len 0 w)) (range_with_len 0 k) ≡ sum_by g (range_with_len 0 (w * k))
+pub rows-sum : (w : ℕ) (g : ℕ → ℕ) (k : ℕ) → sum_by (λ c. sum_by (λ i. g (w * c + i)) (range_with_len 0 w)) (range_with_len 0 k) ≡ sum_by g (range_with_len 0 (w * k))
 rows-sum w g zero = sym (ap (λ n. sum_by g (range_with_len 0 n)) (times-zero w))
 rows-sum w g (suc k) =
     ap (λ n. sum_by (λ c. sum_by (λ i. g (w * c + i)) (range_with_len 0 w)) (range_with_len 0 n)) (suc-more k)
@@ -83,7 +83,7 @@ module _ (u : Unrolling) (planes : PlaneSet) (of : IsOf u planes) (s : Sig) (h :
         | inr late ↦
             elim (cases_Bool (is_set (word_for bit (words_at planes (block_at u s c))) i)) [
               | inl set ↦
-                  let cycle : nat_lt (64 * c + i) u.cycles ≡ true = subst (λ n. nat_lt (64 * n + i) u.cycles ≡ true) (block-chunk u s c k) (of.no_further (block_at u s c) (block-within u s c k h) bit i few set) in
+                  let cycle : nat_lt (64 * c + i) u.cycles ≡ true = subst (λ n. nat_lt (64 * n + i) u.cycles ≡ true) (block-chunk u s c k) (of.no_later (block_at u s c) (block-within u s c k h) bit i few set) in
                   absurd (true≢false (sym cycle ∙ le-ltb (64 * c + i) u.cycles late))
               | inr unset ↦
                   same ∙ unset ∙ sym (ap (λ t. t && is_set (word_for bit (words_at planes (block_at u s ((64 * c + i) / 64)))) ((64 * c + i) % 64)) (le-ltb (64 * c + i) u.cycles late))
@@ -96,9 +96,9 @@ module _ (u : Unrolling) (planes : PlaneSet) (of : IsOf u planes) (s : Sig) (h :
   has-late : (bit : Bool) (t : ℕ) → u.cycles ≤ t → has u planes (lit (cell_at t s) bit) ≡ false
   has-late bit t late = ap (λ b. b && is_set (word_for bit (words_at planes (block_at u s (t / 64)))) (t % 64)) (le-ltb t u.cycles late)
 
-  pub known-row : sum_by (known_bits_at planes s.0) (range_with_len 0 planes.chunks) ≡ cells_where u (is_known u planes) s
+  pub known-row : sum_by (known_bits_at planes s.0) (range_with_len 0 planes.chunks) ≡ cells_where u.cycles (is_known (has u planes)) s
   known-row =
-      row-count (λ c. bit_or (pair_in planes s.0 c).zero (pair_in planes s.0 c).one) (λ t. is_known u planes (cell_at t s)) u.cycles planes.chunks of.chunks
+      row-count (λ c. bit_or (pair_in planes s.0 c).zero (pair_in planes s.0 c).one) (λ t. is_known (has u planes) (cell_at t s)) u.cycles planes.chunks of.chunks
       (λ c i k few.
       let k_in : c < chunks_in u = subst (λ n. c < n) of.chunks k in
       is_set_or (pair_in planes s.0 c).zero (pair_in planes s.0 c).one i
@@ -112,7 +112,7 @@ module _ (u : Unrolling) (planes : PlaneSet) (of : IsOf u planes) (s : Sig) (h :
       ∙ ap (λ n. n + sum_by (λ c. bits_in (pair_in planes s.0 c).one) (range_with_len 0 planes.chunks))
       (row-count (λ c. (pair_in planes s.0 c).zero) (λ t. has u planes (lit (cell_at t s) false)) u.cycles planes.chunks of.chunks
       (λ c i k few. bit-has false c i (subst (λ n. c < n) of.chunks k) few) (has-late false))
-      ∙ ap (λ n. cells_where u (λ c. has u planes (lit c false)) s + n)
+      ∙ ap (λ n. cells_where u.cycles (λ c. has u planes (lit c false)) s + n)
       (row-count (λ c. (pair_in planes s.0 c).one) (λ t. has u planes (lit (cell_at t s) true)) u.cycles planes.chunks of.chunks
       (λ c i k few. bit-has true c i (subst (λ n. c < n) of.chunks k) few) (has-late true))
 
@@ -129,10 +129,10 @@ few-flip_flops drivers =
 
 -- over all chunks
 pub known-all : (u : Unrolling) (planes : PlaneSet) → IsOf u planes
-    → sum_by (λ chunk. sum_by (λ s. known_bits_at planes s.0 chunk) (flip_flops u.circuit.drivers)) (range_with_len 0 planes.chunks) ≡ known_flip_flop_count u planes
+    → sum_by (λ chunk. sum_by (λ s. known_bits_at planes s.0 chunk) (flip_flops u.circuit.drivers)) (range_with_len 0 planes.chunks) ≡ known_count u.circuit u.cycles (has u planes)
 known-all u planes of =
     sum-turned (λ (s : Sig) chunk. known_bits_at planes s.0 chunk) (flip_flops u.circuit.drivers) (range_with_len 0 planes.chunks)
-    ∙ sum-agree_on (λ (s : Sig). s.0 < signals_in u) (λ s. sum_by (known_bits_at planes s.0) (range_with_len 0 planes.chunks)) (cells_where u (is_known u planes)) (flip_flops u.circuit.drivers)
+    ∙ sum-agree_on (λ (s : Sig). s.0 < signals_in u) (λ s. sum_by (known_bits_at planes s.0) (range_with_len 0 planes.chunks)) (cells_where u.cycles (is_known (has u planes))) (flip_flops u.circuit.drivers)
     (flip_flops-within u.circuit.drivers) (λ s h. known-row u planes of s h)
 
 pub literals-all : (u : Unrolling) (planes : PlaneSet) → IsOf u planes

@@ -1,8 +1,9 @@
--- Sums over numbers one after another, and over two lists in either order.
-use Rattle.std.proofs.Common.{ℕ, zero, suc, ◌≡◌, ◌+◌, ◌<◌, ◌≤◌, List, [], ◌∷◌, arith, refl, sym, ap, ◌∙◌}
-use Rattle.std.specs.List.{sum_by, range_with_len, All}
+-- Sums over numbers one after another, over two lists in either order, and of fewer and more.
+use Rattle.std.proofs.Common.{ℕ, zero, suc, ◌≡◌, ◌+◌, ◌<◌, ◌≤◌, List, [], ◌∷◌, length, map, get_or, arith, refl, inl, inr, sym, ap, subst, ◌∙◌}
+use Rattle.std.specs.List.{sum_by, range_with_len, All, Contains}
 use Rattle.std.proofs.lemmas.List.Elements.{All-head, All-tail}
 use Rattle.std.proofs.lemmas.List.Sums.{sum_by-cons}
+use Rattle.sr_model.proofs.Members.{not_in_nil, Contains-cases}
 
 zero-plus : (n : ℕ) → 0 + n ≡ n
 zero-plus n = omega arith
@@ -104,3 +105,37 @@ sum-turned f xs (y ∷ ys) =
     ∙ ap (λ m. sum_by (λ x. f x y) xs + m) (sum-turned f xs ys)
     ∙ two-sums (λ x. f x y) (λ x. sum_by (f x) ys) xs
     ∙ sum-same (λ x. f x y + sum_by (f x) ys) (λ x. sum_by (f x) (y ∷ ys)) xs (λ x. sym (sum_by-cons (f x) y ys))
+
+-- over the items that a function makes
+pub sum-mapped : {X Y : Type 0} (f : Y → ℕ) (g : X → Y) (xs : List X) → sum_by f (map g xs) ≡ sum_by (λ x. f (g x)) xs
+sum-mapped f g [] = refl
+sum-mapped f g (x ∷ xs) = sum_by-cons f (g x) (map g xs) ∙ ap (λ m. f (g x) + m) (sum-mapped f g xs) ∙ sym (sum_by-cons (λ x. f (g x)) x xs)
+
+-- over the places of a list
+pub sum-places : {X : Type 0} (f : X → ℕ) (d : X) (xs : List X) → sum_by f xs ≡ sum_by (λ i. f (get_or xs i d)) (range_with_len 0 (length xs))
+sum-places f d [] = refl
+sum-places f d (x ∷ xs) =
+    sum_by-cons f x xs
+    ∙ ap (λ m. f x + m) (sum-places f d xs
+    ∙ sum-agree (λ i. f (get_or xs i d)) (λ i. f (get_or (x ∷ xs) (1 + i) d)) 0 (length xs) (λ i low high. ap (λ n. f (get_or (x ∷ xs) n d)) (sym (one-plus i)))
+    ∙ sym (sum-moved (λ i. f (get_or (x ∷ xs) i d)) 1 0 (length xs)))
+    ∙ sym (sum_by-cons (λ i. f (get_or (x ∷ xs) i d)) 0 (range_with_len 1 (length xs)))
+  where
+    one-plus : (i : ℕ) → 1 + i ≡ suc i
+    one-plus i = omega arith
+
+-- nowhere more
+pub sum-le : {X : Type 0} (f g : X → ℕ) → ((x : X) → f x ≤ g x) → (xs : List X) → sum_by f xs ≤ sum_by g xs
+sum-le f g below [] = omega arith
+sum-le f g below (x ∷ xs) = omega (arith, below x, sum-le f g below xs, sum_by-cons f x xs, sum_by-cons g x xs)
+
+-- and less at one item
+pub sum-lt : {X : Type 0} (f g : X → ℕ) → ((x : X) → f x ≤ g x) → (xs : List X) (x : X) → Contains xs x → f x < g x → sum_by f xs < sum_by g xs
+sum-lt f g below [] x h less = absurd (not_in_nil x h)
+sum-lt f g below (y ∷ xs) x h less =
+    elim (Contains-cases y xs x h) [
+      | inl e ↦
+          let here : f y < g y = subst (λ z. f z < g z) (sym e) less in
+          omega (arith, here, sum-le f g below xs, sum_by-cons f y xs, sum_by-cons g y xs)
+      | inr later ↦ omega (arith, below y, sum-lt f g below xs x later less, sum_by-cons f y xs, sum_by-cons g y xs)
+    ]

@@ -3,28 +3,31 @@ use Rattle.std.specs.Prelude.{ℕ, ◌+◌, ◌||◌, Bool, true, false, bit_or}
 use Rattle.std.specs.List.{count_by, sum_by, range_with_len}
 use Rattle.sr_model.specs.declared.cells.Sig.{Sig}
 use Rattle.sr_model.specs.declared.cells.Cell.{Cell}
+use Rattle.sr_model.specs.declared.cells.Lit.{Lit}
 use Rattle.sr_model.specs.Netlist.{cell_at}
 use Rattle.sr_model.specs.Closure.{lit}
+use Rattle.netlist.specs.Circuit.{Circuit}
 use Rattle.netlist.specs.Wiring.{flip_flops, signals_below}
+use Rattle.unroll.specs.declared.words.PinWord.{PinWord}
 use Rattle.unroll.specs.Bits.{is_set}
 use Rattle.unroll.specs.Problem.{Unrolling, signals_in}
 use Rattle.known_planes.specs.Planes.{PlaneSet, has, pair_in}
 
--- the planes have a literal of the cell, or both
-abbrev pub is_known : Unrolling → PlaneSet → Cell → Bool
-is_known u planes c = has u planes (lit c false) || has u planes (lit c true)
+-- a literal of the cell is known, or both are
+abbrev pub is_known : (Lit → Bool) → Cell → Bool
+is_known known c = known (lit c false) || known (lit c true)
 
--- how many cells of a signal pass the test
-abbrev pub cells_where : Unrolling → (Cell → Bool) → Sig → ℕ
-cells_where u test s = count_by (λ cycle. test (cell_at cycle s)) (range_with_len 0 u.cycles)
+-- how many cells of a signal, over so many cycles, pass the test
+abbrev pub cells_where : ℕ → (Cell → Bool) → Sig → ℕ
+cells_where cycles test s = count_by (λ cycle. test (cell_at cycle s)) (range_with_len 0 cycles)
 
--- how many cells of flip-flops the planes have a literal of
-abbrev pub known_flip_flop_count : Unrolling → PlaneSet → ℕ
-known_flip_flop_count u planes = sum_by (cells_where u (is_known u planes)) (flip_flops u.circuit.drivers)
+-- how many cells of flip-flops are known
+abbrev pub known_count : Circuit → ℕ → (Lit → Bool) → ℕ
+known_count c cycles known = sum_by (cells_where cycles (is_known known)) (flip_flops c.drivers)
 
 -- how many literals of a signal the planes have
 abbrev pub literals_of : Unrolling → PlaneSet → Sig → ℕ
-literals_of u planes s = cells_where u (λ c. has u planes (lit c false)) s + cells_where u (λ c. has u planes (lit c true)) s
+literals_of u planes s = cells_where u.cycles (λ c. has u planes (lit c false)) s + cells_where u.cycles (λ c. has u planes (lit c true)) s
 
 -- how many literals the planes have
 abbrev pub literal_count : Unrolling → PlaneSet → ℕ
@@ -34,9 +37,13 @@ literal_count u planes = sum_by (literals_of u planes) (signals_below (signals_i
 unfoldable pub bits_in : ℕ → ℕ
 bits_in word = count_by (is_set word) (range_with_len 0 64)
 
+-- how many bits of a block's words are set
+abbrev pub bits_of_both : PinWord → ℕ
+bits_of_both w = bits_in w.zero + bits_in w.one
+
 -- how many cells of a signal in a chunk have a literal, and how many literals they have
 abbrev pub known_bits_at : PlaneSet → ℕ → ℕ → ℕ
 known_bits_at planes s chunk = bits_in (bit_or (pair_in planes s chunk).zero (pair_in planes s chunk).one)
 
 abbrev pub literal_bits_at : PlaneSet → ℕ → ℕ → ℕ
-literal_bits_at planes s chunk = bits_in (pair_in planes s chunk).zero + bits_in (pair_in planes s chunk).one
+literal_bits_at planes s chunk = bits_of_both (pair_in planes s chunk)

@@ -1,11 +1,11 @@
 -- A set of literals in two words for each block.
-use Rattle.std.specs.Prelude.{ℕ, ◌≡◌, ◌<◌, ◌+◌, ◌*◌, ◌&&◌, Bool, true, false, IsTrue, bit_or, List, length, nat_lt, slice_index_or, slice_set}
+use Rattle.std.specs.Prelude.{ℕ, ◌≡◌, ◌<◌, ◌+◌, ◌*◌, ◌&&◌, Bool, true, false, bit_or, List, length, nat_lt, slice_index_or, slice_set}
 use Rattle.sr_model.specs.declared.cells.Lit.{Lit}
 use Rattle.sr_model.specs.Closure.{passing}
 use Rattle.unroll.specs.declared.problem.Block.{Block}
 use Rattle.unroll.specs.declared.words.PinWord.{PinWord}
-use Rattle.unroll.specs.Bits.{is_set, is_cycle, word_for}
-use Rattle.unroll.specs.Problem.{Unrolling, signals_in, chunks_in, blocks_in, block_of, chunk_at, bit_of}
+use Rattle.unroll.specs.Bits.{is_set, word_for}
+use Rattle.unroll.specs.Problem.{Unrolling, HasNoLaterBit, signals_in, chunks_in, blocks_in, block_of, chunk_at, bit_of}
 use Rattle.known_planes.specs.declared.planes.Seen.{Seen}
 use Rattle.known_planes.specs.declared.planes.Seen.TheVariants.{Zero, One, Unknown, Both}
 
@@ -43,16 +43,12 @@ has u planes l = nat_lt l.cell.cycle u.cycles && is_set (word_for l.bit (words_a
 abbrev pub lits : Unrolling → PlaneSet → Lit → Type 0
 lits u planes = passing (has u planes)
 
--- no bit of a chunk's words is set for a cycle that is not there
-abbrev pub HasNoFurtherBit : Unrolling → ℕ → PinWord → Type 0
-HasNoFurtherBit u chunk w = (bit : Bool) (i : ℕ) → i < 64 → IsTrue (is_set (word_for bit w) i) → IsTrue (is_cycle u.cycles chunk i)
-
--- the planes are over the blocks of the problem, and have no further bit
+-- the planes are over the blocks of the problem, and have no bit of a later cycle
 pub record IsOf (u : Unrolling) (planes : PlaneSet) : Type 0 where
   pub signals : planes.signals ≡ signals_in u
   pub chunks : planes.chunks ≡ chunks_in u
   pub blocks : length planes.words ≡ blocks_in u
-  pub no_further : (b : Block) → b.0 < blocks_in u → HasNoFurtherBit u (chunk_at u b) (words_at planes b)
+  pub no_later : (b : Block) → b.0 < blocks_in u → HasNoLaterBit u.cycles (chunk_at u b) (words_at planes b)
 
 -- what is seen of a cell, by whether its literals 0 and 1 are there
 abbrev pub seen_of : Bool → Bool → Seen

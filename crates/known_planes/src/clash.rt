@@ -1,11 +1,11 @@
 //! Cells of which planes have both literals.
 ghost use Rattle.std.specs.Prelude.{ℕ, ◌≡◌, ◌<◌, ◌≤◌, ◌↔◌, ◌*◌, ◌+◌, IfSome, IsNone, IsTrue, false, true, slice_index_or};
 ghost use Rattle.sr_model.specs.declared.cells.Cell.{Cell as AnyCell};
-ghost use Rattle.sr_model.specs.Closure.{HasBoth};
+ghost use Rattle.sr_model.specs.Closure.{HasBoth, IsLeastClash};
 ghost use Rattle.unroll.specs.Bits.{is_set};
 ghost use Rattle.unroll.specs.Problem.{signals_in};
 ghost use Rattle.known_planes.specs.Planes.{IsOf, lits};
-ghost use Rattle.known_planes.specs.Clash.{IsLeastClash, has_both_at};
+ghost use Rattle.known_planes.specs.Clash.{has_both_at};
 
 use crate::planes::{Planes, is_set};
 use sr_model::{Cell, Sig};

@@ -1,9 +1,9 @@
 //! The boundary through which a closure is taken.
-ghost use Rattle.std.specs.Prelude.{◌⊎◌, IfOk};
+ghost use Rattle.std.specs.Prelude.{◌||◌, IfOk};
 ghost use Rattle.sr_model.specs.declared.cells.Cell.{Cell as AnyCell};
-ghost use Rattle.sr_model.specs.Closure.{Closure, HasBoth, IsWithin, SameLits};
+ghost use Rattle.sr_model.specs.Closure.{Closure, HasBoth, IsWithin, SameLits, passing};
 ghost use Rattle.unroll.specs.Problem.{unrolled};
-ghost use Rattle.known_planes.specs.Planes.{lits, IsOf};
+ghost use Rattle.known_planes.specs.Planes.{has, lits, IsOf};
 
 use crate::planes::Planes;
 use sr_model::NoMemory;
@@ -38,9 +38,10 @@ pub trait Closer {
         requires added_of { IsOf p.now added.now }
         requires closed { SameLits (lits p.now closed.now) (Closure (unrolled p.now) (lits p.now closed.now)) }
         ensures of { IfOk result (IsOf p.now) }
-        ensures closure { IfOk result (λ planes. SameLits (lits p.now planes) (Closure (unrolled p.now) (λ l. lits p.now closed.now l ⊎ lits p.now added.now l))) };
+        ensures closure { IfOk result (λ planes. SameLits (lits p.now planes) (Closure (unrolled p.now) (passing (λ l. has p.now closed.now l || has p.now added.now l)))) };
 
-    /// The planes with the closure of the base, or so much of it that a cell has both literals: it need not go on behind the first such cell that it meets.
+    /// The planes with the closure of the base, or with the base and so much of its closure that a cell has both literals: it need not go on behind the first such cell
+    /// that it meets.
     fn close_until_clash<R: Threads + Sync>(
         &mut self,
         rt: &R,
@@ -50,6 +51,7 @@ pub trait Closer {
     ) -> Result<Planes, NoMemory>
         requires { IsOf p.now base.now }
         ensures of { IfOk result (IsOf p.now) }
+        ensures above { IfOk result (λ planes. IsWithin (lits p.now base.now) (lits p.now planes)) }
         ensures within { IfOk result (λ planes. IsWithin (lits p.now planes) (Closure (unrolled p.now) (lits p.now base.now))) }
         ensures closure { IfOk result (λ planes. ((c : AnyCell) → HasBoth (lits p.now planes) c → ⊥) → SameLits (lits p.now planes) (Closure (unrolled p.now) (lits p.now base.now))) };
 }

@@ -3,8 +3,8 @@ ghost use Rattle.std.specs.Prelude.{◌≡◌, ◌≤◌, ◌<◌, ◌*◌};
 ghost use Rattle.std.specs.List.{sum_by};
 ghost use Rattle.netlist.specs.Wiring.{flip_flops, signals_below};
 ghost use Rattle.unroll.specs.Problem.{Unrolling, chunks_in};
-ghost use Rattle.known_planes.specs.Planes.{IsOf};
-ghost use Rattle.known_planes.specs.Counts.{known_flip_flop_count, literal_count, bits_in, known_bits_at, literal_bits_at};
+ghost use Rattle.known_planes.specs.Planes.{IsOf, has};
+ghost use Rattle.known_planes.specs.Counts.{known_count, literal_count, bits_in, known_bits_at, literal_bits_at};
 
 use crate::planes::Planes;
 use sr_model::Sig;
@@ -14,7 +14,7 @@ impl Planes {
     /// The number of flip-flop cells of which at least one literal is there. A cell with both counts once.
     pub fn count_known_flip_flops(&self, p: &Problem) -> u64
         requires { IsOf p.now self.now }
-        ensures count { result ≡ known_flip_flop_count p.now self.now }
+        ensures count { result ≡ known_count p.now.circuit p.now.cycles (has p.now self.now) }
         ensures few { result ≤ 536870912 }
     {
         let mut count = 0;

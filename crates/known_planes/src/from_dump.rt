@@ -4,8 +4,8 @@ ghost use Rattle.sr_model.specs.declared.cells.Lit.{Lit};
 ghost use Rattle.sr_model.specs.Dump.{dump_has, is_bit};
 ghost use Rattle.dump_reader.specs.Recording.{bit_of};
 ghost use Rattle.unroll.specs.Bits.{is_set, word_for};
-ghost use Rattle.unroll.specs.Problem.{signals_in, chunks_in, block_at};
-ghost use Rattle.known_planes.specs.Planes.{has, words_at, with_words, IsOf, HasNoFurtherBit, joined};
+ghost use Rattle.unroll.specs.Problem.{signals_in, chunks_in, block_at, HasNoLaterBit};
+ghost use Rattle.known_planes.specs.Planes.{has, words_at, with_words, IsOf, joined};
 
 use crate::planes::Planes;
 use dump_reader::{Dump, Tri};
@@ -48,7 +48,7 @@ fn join_words(planes: &mut Planes, p: &Problem, s: Sig, chunk: u32, words: PinWo
     requires of { IsOf p.now planes.old }
     requires signal { s.0 < signals_in p.now }
     requires chunk { chunk < chunks_in p.now }
-    requires no_further { HasNoFurtherBit p.now chunk words }
+    requires no_later { HasNoLaterBit p.now.cycles chunk words }
     ensures of { IsOf p.now planes.new }
     ensures words { planes.new ≡ with_words planes.old (block_at p.now s chunk) (joined (words_at planes.old (block_at p.now s chunk)) words) }
 {

@@ -12,5 +12,5 @@ mod tests;
 
 pub use closer::Closer;
 pub use from_dump::seed;
-pub use laws::planes_laws;
+pub use laws::{count_laws, planes_laws};
 pub use planes::{Planes, Seen};

@@ -3,8 +3,8 @@ ghost use Rattle.std.specs.Prelude.{◌≡◌, ◌<◌, ◌≤◌, ◌*◌, ◌+
 ghost use Rattle.sr_model.specs.declared.cells.Lit.{Lit};
 ghost use Rattle.sr_model.specs.Closure.{lit};
 ghost use Rattle.unroll.specs.Bits.{is_set};
-ghost use Rattle.unroll.specs.Problem.{signals_in, chunks_in, blocks_in, block_at, chunk_at};
-ghost use Rattle.known_planes.specs.Planes.{has, pair_in, words_at, with_words, HasNoFurtherBit, IsOf, seen_of};
+ghost use Rattle.unroll.specs.Problem.{signals_in, chunks_in, blocks_in, block_at, chunk_at, HasNoLaterBit};
+ghost use Rattle.known_planes.specs.Planes.{has, pair_in, words_at, with_words, IsOf, seen_of};
 ghost use Rattle.known_planes.specs.Layout.{place_of};
 
 use sr_model::{Cell, NoMemory, Sig};
@@ -83,7 +83,7 @@ impl Planes {
     pub fn set(&mut self, p: &Problem, b: Block, w: PinWord)
         requires of { IsOf p.now self.old }
         requires block { b.0 < blocks_in p.now }
-        requires no_further { HasNoFurtherBit p.now (chunk_at p.now b) w }
+        requires no_later { HasNoLaterBit p.now.cycles (chunk_at p.now b) w }
         ensures words { self.new ≡ with_words self.old b w }
         ensures of { IsOf p.now self.new }
     {
@@ -105,7 +105,7 @@ impl Planes {
         requires of { IsOf _p.now self.old }
         requires signal { s.0 < signals_in _p.now }
         requires chunk { chunk < chunks_in _p.now }
-        requires no_further { HasNoFurtherBit _p.now chunk w }
+        requires no_later { HasNoLaterBit _p.now.cycles chunk w }
         ensures words { self.new ≡ with_words self.old (block_at _p.now s chunk) w }
         ensures of { IsOf _p.now self.new }
     {

@@ -1,7 +1,7 @@
 //! Planes of a small netlist over two chunks, worked out by hand.
 ghost use Rattle.std.specs.Prelude.{◌≡◌, ◌<◌, length, IfOk};
-ghost use Rattle.unroll.specs.Problem.{signals_in, chunks_in};
-ghost use Rattle.known_planes.specs.Planes.{HasNoFurtherBit, IsOf};
+ghost use Rattle.unroll.specs.Problem.{signals_in, chunks_in, HasNoLaterBit};
+ghost use Rattle.known_planes.specs.Planes.{IsOf};
 
 use crate::{Closer, Planes, Seen, seed};
 use dump_reader::{Dump, Tri};
@@ -41,7 +41,7 @@ fn small(rt: &impl Abort, alloc: Global) -> Result<Netlist, Fail> {
 /// The words without bits of cycles that are not there.
 fn words(p: &Problem, chunk: u32, zero: u64, one: u64) -> PinWord
     requires { chunk < chunks_in p.now }
-    ensures { HasNoFurtherBit p.now chunk result }
+    ensures { HasNoLaterBit p.now.cycles chunk result }
 {
     let valid = p.valid_bits(chunk);
     PinWord {

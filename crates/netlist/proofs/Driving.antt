@@ -18,7 +18,7 @@ use Rattle.sr_model.specs.Netlist.{Driver}
 use Rattle.sr_model.proofs.Members.{map-agree}
 use Rattle.netlist.specs.declared.wiring.Node.{Node}
 use Rattle.netlist.specs.Numbering.{driven_name, drives, pin_names, place_in, sig_in, stated_driver}
-use Rattle.netlist.specs.Wiring.{driver_of, driver_by, IsNodeWithin}
+use Rattle.netlist.specs.Nodes.{driver_of, driver_by, IsNodeWithin}
 use Rattle.netlist.specs.Checks.{IsDrivenOnce}
 use Rattle.netlist.specs.Driving.{kind_stated, node_at, driver_among, HoldsDrivers, AreWithin}
 use Rattle.netlist.proofs.Once.{has, has-append, has-there, has-here, Contains-from_has, lacks-from_has, IsApart}
@@ -243,3 +243,6 @@ module _ (items : List Numbered) (names : List (List ℕ)) (i : ℕ) (x : Number
       length-flat_map-take pin_names (map stated_by items) i (stated_by x) (omega (arith, at.within, length-map items stated_by)) in
       let read : get_or (map stated_by items) i (stated_by x) ≡ stated_by x = get_or-map stated_by items i x (stated_by x) at.within ∙ ap stated_by (sym at.read) in
       omega (arith, some, ap (λ (d : Declaration). length (pin_names d)) read, so_far.pins_before)
+
+pub nodes-long : (pins : List Sig) (sig : List ℕ → Sig) (names : List (List ℕ)) (ds : List Declaration) (nodes : List (Option Node)) → HoldsDrivers pins sig names ds nodes → length nodes ≡ length names
+nodes-long pins sig names ds nodes holds = sym (length-map nodes (option_map (driver_of pins))) ∙ ap length holds ∙ length-map names (driver_among sig ds)

@@ -10,7 +10,8 @@ use Rattle.netlist.specs.declared.lists.Entry.{Entry}
 use Rattle.netlist.specs.declared.wiring.Node.{Node}
 use Rattle.sr_model.specs.Netlist.{Input}
 use Rattle.netlist.specs.Entries.{items_in, has_sig}
-use Rattle.netlist.specs.Wiring.{driver_at, driver_of, drivers_from, pins_of, reads, signals_below}
+use Rattle.netlist.specs.Wiring.{driver_at, pins_of, reads, signals_below}
+use Rattle.netlist.specs.Nodes.{driver_of, drivers_from}
 
 -- The items below n were added to the lists, of which there are so many, that they belong to; and each last item is one of them.
 pub record Gathered (lists : ℕ) (belongs : ℕ → Sig → Bool) (n : ℕ) (found : List Entry) (last : List (Option Sig)) : Type 0 where

@@ -10,7 +10,8 @@ use Rattle.sr_model.specs.declared.cells.Sig.{Sig}
 use Rattle.netlist.specs.declared.wiring.Node.{Node}
 use Rattle.netlist.specs.declared.lists.Entry.{Entry}
 use Rattle.netlist.specs.Entries.{count_below, part_of, lists_from, AreParts}
-use Rattle.netlist.specs.Wiring.{driver_by, driver_of, drivers_from, pins_of, IsWired}
+use Rattle.netlist.specs.Wiring.{pins_of, IsWired}
+use Rattle.netlist.specs.Nodes.{driver_by, driver_of, drivers_from}
 use Rattle.netlist.proofs.ListStarts.{count_below-none}
 use Rattle.netlist.proofs.ListParts.{count_below-le}
 

@@ -4,7 +4,8 @@ use Rattle.std.proofs.lemmas.List.FromFn.{filter_of_map_range_with_len_more}
 use Rattle.std.specs.List.{filter}
 use Rattle.sr_model.specs.declared.cells.Sig.{Sig}
 use Rattle.netlist.specs.declared.wiring.Node.{Node}
-use Rattle.netlist.specs.Wiring.{driver_at, driver_of, drivers_from, is_flip_flop, signals_below}
+use Rattle.netlist.specs.Wiring.{driver_at, is_flip_flop, signals_below}
+use Rattle.netlist.specs.Nodes.{driver_of, drivers_from}
 use Rattle.netlist.proofs.EachItem.{driver_at-node}
 
 -- the flip-flops among the signals below n

@@ -5,7 +5,10 @@ pub mod FewSignals
 pub mod FlatArrays
 pub mod FlipFlopList
 pub mod Levels
+pub mod LoopFound
 pub mod Marks
+pub mod MentionSigs
+pub mod NetlistOrRefused
 pub mod OddPins
 pub mod Once
 pub mod OneItem

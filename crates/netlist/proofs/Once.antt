@@ -20,7 +20,7 @@ without n ns = filter (λ m. not (pointwise eqb n m)) ns
 abbrev add_name : List (List ℕ) → List ℕ → List (List ℕ)
 add_name ns n = cond (has ns n) ns (ns ++ n ∷ [])
 
-list_any-map : {X Y : Type 0} (f : X → Y) (test : Y → Bool) (xs : List X) → list_any test (map f xs) ≡ list_any (λ x. test (f x)) xs
+pub list_any-map : {X Y : Type 0} (f : X → Y) (test : Y → Bool) (xs : List X) → list_any test (map f xs) ≡ list_any (λ x. test (f x)) xs
 list_any-map f test [] = refl
 list_any-map f test (x ∷ xs) = ap (λ b. test (f x) || b) (list_any-map f test xs)
 
@@ -163,17 +163,17 @@ once-of_apart [] apart = refl
 once-of_apart (n ∷ ns) apart =
     ap (λ (zs : List (List ℕ)). n ∷ without n zs) (once-of_apart ns apart.1) ∙ ap (λ (zs : List (List ℕ)). n ∷ zs) (without_absent n ns apart.0)
 
-once-once : (ns : List (List ℕ)) → once (once ns) ≡ once ns
+pub once-once : (ns : List (List ℕ)) → once (once ns) ≡ once ns
 once-once ns = once-of_apart (once ns) (once-apart ns)
 
 -- adding to what was added before
 pub once-append_once : (ns ms : List (List ℕ)) → once (once ns ++ ms) ≡ once (ns ++ ms)
 once-append_once ns ms = once-append_fold (once ns) ms ∙ ap (λ (zs : List (List ℕ)). fold add_name zs ms) (once-once ns) ∙ sym (once-append_fold ns ms)
 
-once-present : (ns : List (List ℕ)) (n : List ℕ) → once ns ≡ ns → has ns n ≡ true → once (ns ++ n ∷ []) ≡ ns
+pub once-present : (ns : List (List ℕ)) (n : List ℕ) → once ns ≡ ns → has ns n ≡ true → once (ns ++ n ∷ []) ≡ ns
 once-present ns n e h = once-push ns n ∙ ap (λ (zs : List (List ℕ)). add_name zs n) e ∙ add_name-present ns n h
 
-once-absent : (ns : List (List ℕ)) (n : List ℕ) → once ns ≡ ns → has ns n ≡ false → once (ns ++ n ∷ []) ≡ ns ++ n ∷ []
+pub once-absent : (ns : List (List ℕ)) (n : List ℕ) → once ns ≡ ns → has ns n ≡ false → once (ns ++ n ∷ []) ≡ ns ++ n ∷ []
 once-absent ns n e h = once-push ns n ∙ ap (λ (zs : List (List ℕ)). add_name zs n) e ∙ add_name-absent ns n h
 
 -- two places hold two names
@@ -207,7 +207,7 @@ module _ {X : Type 0} (f : X → List ℕ) (keys : List X) (ns : List (List ℕ)
 
   module _ (x : X) (after : List X) (missing : false ≡ list_any (λ k. pointwise eqb n (f k)) keys) (holds : f x ≡ n)
       (added : after ≡ cond (list_any (λ k. pointwise eqb (f x) (f k)) keys) keys (keys ++ x ∷ [])) where
-    added_last : map f after ≡ map f keys ++ n ∷ []
+    pub added_last : map f after ≡ map f keys ++ n ∷ []
     added_last =
         let fails : list_any (λ k. pointwise eqb (f x) (f k)) keys ≡ false = ap (λ m. list_any (λ k. pointwise eqb m (f k)) keys) holds ∙ sym missing in
         ap (map f) (added ∙ cond-false (list_any (λ k. pointwise eqb (f x) (f k)) keys) keys (keys ++ x ∷ []) fails)

@@ -10,7 +10,8 @@ use Rattle.sr_model.specs.declared.cells.Sig.{Sig}
 use Rattle.sr_model.specs.Netlist.{Driver, Input}
 use Rattle.netlist.specs.declared.wiring.Node.{Node}
 use Rattle.netlist.specs.Entries.{has_sig, is_odd_in}
-use Rattle.netlist.specs.Wiring.{driver_at, driver_of, drivers_from, pins_of, reads, signals_of, signals_below, is_driven, has_signal, is_odd_pin, pin_parities, IsWired}
+use Rattle.netlist.specs.Wiring.{driver_at, pins_of, reads, signals_of, signals_below, is_driven, has_signal, is_odd_pin, pin_parities, IsWired}
+use Rattle.netlist.specs.Nodes.{driver_of, drivers_from}
 use Rattle.netlist.proofs.EachItem.{driver_at-node}
 use Rattle.netlist.proofs.FlatArrays.{drivers_from-wired, driver_of-pins}
 use Rattle.netlist.proofs.Marks.{signals_within}

@@ -1,18 +1,19 @@
 -- The places of names in a list.
-use Rattle.std.proofs.Common.{◌≡◌, ℕ, ◌+◌, ◌<◌, ◌≤◌, Bool, true, false, not, cond, eqb, ltb, List, [], ◌∷◌, length, map, get_or, Option, Some, None, refl, sym, ap, subst, ◌∙◌, inl, inr, arith, suc, set}
+use Rattle.std.proofs.Common.{◌≡◌, ℕ, ◌+◌, ◌<◌, ◌≤◌, Bool, true, false, not, cond, eqb, ltb, List, [], ◌∷◌, ◌++◌, length, map, get_or, Option, Some, None, refl, sym, ap, subst, ◌∙◌, inl, inr, arith, suc, set}
 use Rattle.std.specs.Cmp.Lexicographic.{pointwise}
-use Rattle.std.specs.List.{Contains, position, position_or_len}
-use Rattle.std.proofs.lemmas.Bool.{true≢false, cond-true, cond-false, ltb-true, ltb-false, cases_lt}
+use Rattle.std.specs.List.{Contains, list_any, position, position_or_len}
+use Rattle.std.proofs.lemmas.Bool.{true≢false, cond-true, cond-false, ltb-true, ltb-false, cases_lt, cases_Bool}
 use Rattle.std.proofs.lemmas.List.Sums.{position_or_len_is, fails_before_first, passes_at_first}
-use Rattle.std.proofs.lemmas.List.{length-map, get_or-map}
+use Rattle.std.proofs.lemmas.List.{append-nil, append_assoc, length-append, length-map, get_or-map, get_or_append_left, get_or_push}
+use Rattle.std.proofs.lemmas.List.Elements.{Contains-append_left}
 use Rattle.std.proofs.lemmas.Option.{cond_some, slice_get-get_or}
 use Rattle.std.proofs.lemmas.Slice.Eq.{bytes_eq-Decides}
 use Rattle.sr_model.proofs.Members.{not_in_nil, Contains-cases, map-agree}
 use Rattle.std.specs.Prelude.{IfSome, slice_get}
 use Rattle.std.specs.Option.{SomeIff}
 use Rattle.sr_model.specs.declared.cells.Sig.{Sig}
-use Rattle.netlist.specs.Numbering.{place_in, sig_in}
-use Rattle.netlist.proofs.Once.{is_or_not, same_name, other_name, lacks-from_has, IsApart, apart_places}
+use Rattle.netlist.specs.Numbering.{once, place_in, sig_in}
+use Rattle.netlist.proofs.Once.{has, list_any-map, has-once, has-from_Contains, Contains-from_has, is_or_not, same_name, other_name, lacks-from_has, once-once, once-append_once, once-present, once-absent, IsApart, apart_places}
 
 position_or_len-map : {X Y : Type 0} (f : X → Y) (test : Y → Bool) (xs : List X) → position_or_len test (map f xs) ≡ position_or_len (λ x. test (f x)) xs
 position_or_len-map f test [] = refl
@@ -62,6 +63,24 @@ module _ {X : Type 0} (f : X → List ℕ) (xs : List X) (n : List ℕ) where
       let past : length xs ≤ position_or_len (λ x. pointwise eqb n (f x)) xs = ltb-false (position_or_len (λ x. pointwise eqb n (f x)) xs) (length xs) (cond_none (ltb (position_or_len (λ x. pointwise eqb n (f x)) xs) (length xs)) (position_or_len (λ x. pointwise eqb n (f x)) xs) e) in
       omega (arith, past, place, length-map xs f, place_in-lt (map f xs) n h)
 
+  pub found_key : (i : ℕ) → position (λ x. pointwise eqb n (f x)) xs ≡ Some i → true ≡ list_any (λ x. pointwise eqb n (f x)) xs
+  found_key i e = sym (sym (list_any-map f (pointwise eqb n) xs) ∙ has-from_Contains (map f xs) n (found_place i e).0)
+
+  pub missing_key : position (λ x. pointwise eqb n (f x)) xs ≡ None → false ≡ list_any (λ x. pointwise eqb n (f x)) xs
+  missing_key e =
+      elim (cases_Bool (list_any (λ x. pointwise eqb n (f x)) xs)) [
+        | inl here ↦ absurd (missing_place e (Contains-from_has (map f xs) n (list_any-map f (pointwise eqb n) xs ∙ here)))
+        | inr fails ↦ sym fails
+      ]
+
+-- a new name goes to the end
+pub place-last : (ns : List (List ℕ)) (n : List ℕ) → (Contains ns n → ⊥) → place_in (ns ++ n ∷ []) n ≡ length ns
+place-last ns n new =
+    let long : length (ns ++ n ∷ []) ≡ length ns + 1 = length-append ns (n ∷ []) in
+    position_or_len_is (pointwise eqb n) (ns ++ n ∷ []) (length ns) n (omega (arith, long))
+    (λ k below. other_name n (get_or (ns ++ n ∷ []) k n) (λ e. new (k, below, sym (get_or_append_left ns (n ∷ []) n k below) ∙ sym e)))
+    (λ _. same_name n (get_or (ns ++ n ∷ []) (length ns) n) (sym (get_or_push ns n n (length ns) refl)))
+
 -- ---- a list by places of names
 
 place_here : (n : List ℕ) (ns : List (List ℕ)) (t : List ℕ) → t ≡ n → place_in (n ∷ ns) t ≡ 0
@@ -100,3 +119,35 @@ found_name names n (Some s) is =
     let at : slice_get names (place_in names n) ≡ Some n =
     slice_get-get_or names (place_in names n) n below ∙ ap (λ (x : List ℕ). Some x) (get_or-place_in names n n below) in
     subst (λ (t : Sig). slice_get names t.0 ≡ Some n) (sym is.1) at
+
+-- ---- places that stay
+
+-- names behind others do not move them
+place-append : (ns ms : List (List ℕ)) (n : List ℕ) → Contains ns n → place_in (ns ++ ms) n ≡ place_in ns n
+place-append ns ms n member =
+    let i : ℕ = place_in ns n in
+    let lt : i < length ns = place_in-lt ns n member in
+    let long : length (ns ++ ms) ≡ length ns + length ms = length-append ns ms in
+    position_or_len_is (pointwise eqb n) (ns ++ ms) i n (omega (arith, lt, long))
+    (λ k below. ap (pointwise eqb n) (get_or_append_left ns ms n k (omega (arith, below, lt))) ∙ fails_before_first (pointwise eqb n) ns k n below)
+    (λ _. same_name n (get_or (ns ++ ms) i n) (sym (get_or_append_left ns ms n i lt ∙ get_or-place_in ns n n lt)))
+
+place-push : (ns : List (List ℕ)) (m n : List ℕ) → once ns ≡ ns → Contains ns n → place_in (once (ns ++ m ∷ [])) n ≡ place_in ns n
+place-push ns m n stays member =
+    elim (cases_Bool (has ns m)) [
+      | inl here ↦ ap (λ (zs : List (List ℕ)). place_in zs n) (once-present ns m stays here)
+      | inr fails ↦ ap (λ (zs : List (List ℕ)). place_in zs n) (once-absent ns m stays fails) ∙ place-append ns (m ∷ []) n member
+    ]
+
+-- nor do names that are added where they are new
+pub place-kept : (ns ms : List (List ℕ)) (n : List ℕ) → once ns ≡ ns → Contains ns n → place_in (once (ns ++ ms)) n ≡ place_in ns n
+place-kept ns [] n stays member = ap (λ (zs : List (List ℕ)). place_in (once zs) n) (append-nil ns) ∙ ap (λ (zs : List (List ℕ)). place_in zs n) stays
+place-kept ns (m ∷ ms) n stays member =
+    let now : List (List ℕ) = once (ns ++ m ∷ []) in
+    let there : Contains now n = Contains-from_has now n (has-once (ns ++ m ∷ []) n ∙ has-from_Contains (ns ++ m ∷ []) n (Contains-append_left ns (m ∷ []) n member)) in
+    ap (λ (zs : List (List ℕ)). place_in (once zs) n) (sym (append_assoc ns (m ∷ []) ms)) ∙ ap (λ (zs : List (List ℕ)). place_in zs n) (sym (once-append_once (ns ++ m ∷ []) ms))
+    ∙ place-kept now ms n (once-once (ns ++ m ∷ [])) there ∙ place-push ns m n stays member
+
+-- the signals of names of the list
+pub sigs-kept : (ns ms xs : List (List ℕ)) → once ns ≡ ns → ((n : List ℕ) → Contains xs n → Contains ns n) → map (sig_in (once (ns ++ ms))) xs ≡ map (sig_in ns) xs
+sigs-kept ns ms xs stays among = map-agree (sig_in (once (ns ++ ms))) (sig_in ns) xs (λ n h. ap (λ (i : ℕ). let s : Sig = record { 0 = i } in s) (place-kept ns ms n stays (among n h)))

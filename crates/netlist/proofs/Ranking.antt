@@ -1,7 +1,7 @@
--- What stands when no signal is left to be looked at.
+-- What stands when no signal is left to be looked at: ranks, or signals that loops feed.
 use Rattle.std.proofs.Common.{ℕ, zero, suc, ◌≡◌, ◌+◌, ◌<◌, ◌≤◌, ◌⊎◌, Bool, true, false, List, [], ◌∷◌, length, get_or, set, refl, sym, ◌∙◌, subst, inl, inr, arith, count_by, IsTrue}
 use Rattle.std.specs.List.{All, Contains, filter}
-use Rattle.std.proofs.lemmas.Bool.{cases_Bool, cases_eq, both_ways, cond-true, cond-false, false_from_ne_true}
+use Rattle.std.proofs.lemmas.Bool.{cases_Bool, cases_eq, both_ways, cond-true, cond-false}
 use Rattle.std.proofs.lemmas.List.{get_or_default, ext_get_or}
 use Rattle.std.proofs.lemmas.List.Elements.{Contains-get_or}
 use Rattle.sr_model.proofs.Members.{filter-has, filter-passes}
@@ -9,7 +9,7 @@ use Rattle.sr_model.specs.declared.cells.Sig.{Sig}
 use Rattle.sr_model.specs.Netlist.{Driver}
 use Rattle.netlist.specs.Wiring.{driver_at, is_gate, signals_below}
 use Rattle.netlist.specs.Ranks.{greatest_rank, rank_by, IsRank, IsOrder}
-use Rattle.netlist.specs.Loops.{HasPinIn, EachHasPinWithin, IsFedByLoop, HasNoLoop}
+use Rattle.netlist.specs.Loops.{HasPinIn, EachHasPinWithin, IsFedByLoop}
 use Rattle.netlist.specs.Laws.{RanksAreUnique, RanksExcludeLoops, RanksExist}
 use Rattle.netlist.specs.Ranking.{Progress, start_of, with_rank, IsUnmarked, AreUnmarked, pin_at, pins_at, HasRank, IsSound, awaited, AreSettled, MarksFed}
 use Rattle.netlist.proofs.Placing.{IsByRank}
@@ -111,15 +111,19 @@ marked_fed drivers marks size has s marked = record { signals = all; each = each
         ),
       )
 
--- where no signal is fresh, the signals without a rank are those that loops feed
-pub unranked_are_fed : (drivers : List Driver) (p : Progress) → IsSound drivers p → AreSettled drivers p [] (length drivers) → MarksFed drivers p.unranked
-unranked_are_fed drivers p sound settled = record {
+-- where each signal without a rank has such a pin, they are those that loops feed
+fed_marks : (drivers : List Driver) (p : Progress) → IsSound drivers p → ((s : ℕ) → get_or p.unranked s false ≡ true → HasMarkedPin drivers p.unranked s) → MarksFed drivers p.unranked
+fed_marks drivers p sound has = record {
   size = sound.unranked_size;
   each = λ s. (
     marked_fed drivers p.unranked sound.unranked_size has s,
-    λ fed. elim (cases_Bool (get_or p.unranked s.0 false)) [ inl marked ↦ marked | inr unmarked ↦ absurd (known_not_fed drivers p sound s unmarked fed) ],
+    λ is_fed. elim (cases_Bool (get_or p.unranked s.0 false)) [ inl marked ↦ marked | inr unmarked ↦ absurd (known_not_fed drivers p sound s unmarked is_fed) ],
   );
-} where
+}
+
+-- where no signal is fresh, the signals without a rank are those that loops feed
+pub unranked_are_fed : (drivers : List Driver) (p : Progress) → IsSound drivers p → AreSettled drivers p [] (length drivers) → MarksFed drivers p.unranked
+unranked_are_fed drivers p sound settled = fed_marks drivers p sound has where
   has : (s : ℕ) → get_or p.unranked s false ≡ true → HasMarkedPin drivers p.unranked s
   has s marked =
       let within : s < length p.unranked = marked_within p.unranked s marked in
@@ -134,20 +138,26 @@ unranked_are_fed drivers p sound settled = record {
         }
       ]
 
--- none of the pins has a mark, or one has
-pins_cases : (marks : List Bool) (pins : List Sig) → AreUnmarked marks pins (length pins) ⊎ ((k : ℕ) × (k < length pins) × (get_or marks (pin_at pins k).0 false ≡ true))
+-- the first pin with a mark
+pub record IsFirstMarked (marks : List Bool) (pins : List Sig) (k : ℕ) : Type 0 where
+  pub below : k < length pins
+  pub marked : get_or marks (pin_at pins k).0 false ≡ true
+  pub before : AreUnmarked marks pins k
+
+-- none of the pins has a mark, or one is the first that has
+pub pins_cases : (marks : List Bool) (pins : List Sig) → AreUnmarked marks pins (length pins) ⊎ ((k : ℕ) × IsFirstMarked marks pins k)
 pins_cases marks [] = inl (λ k h. absurd (omega arith))
 pins_cases marks (pin ∷ pins) =
     elim (cases_Bool (get_or marks pin.0 false)) [
-      | inl marked ↦ inr (0, omega arith, marked)
+      | inl marked ↦ inr (0, record { below = omega arith; marked = marked; before = λ k h. absurd (omega arith) })
       | inr unmarked ↦ elim (pins_cases marks pins) [
-        | inl rest ↦ inl (both unmarked rest)
-        | inr later ↦ let below : later.0 < length pins = later.1 in inr (suc later.0, omega arith, later.2)
+        | inl rest ↦ inl (more (length pins) unmarked rest)
+        | inr later ↦ let below : later.0 < length pins = later.1.below in inr (suc later.0, record { below = omega arith; marked = later.1.marked; before = more later.0 unmarked later.1.before })
       ]
     ] where
-      both : IsUnmarked marks pin.0 → AreUnmarked marks pins (length pins) → AreUnmarked marks (pin ∷ pins) (length (pin ∷ pins))
-      both first rest zero h = first
-      both first rest (suc k) h = rest k (omega arith)
+      more : (n : ℕ) → IsUnmarked marks pin.0 → AreUnmarked marks pins n → AreUnmarked marks (pin ∷ pins) (suc n)
+      more n first rest zero h = first
+      more n first rest (suc k) h = rest k (omega arith)
 
 -- a signal without a rank whose pins have ranks
 record IsReady (drivers : List Driver) (p : Progress) (s : ℕ) : Type 0 where
@@ -163,7 +173,7 @@ ready_at drivers p s within =
         | inr source ↦ inl (record { within = within; marked = marked; pins = λ gate. absurd (both_ways (is_gate (driver_at drivers s)) source gate) })
         | inl gate ↦ elim (pins_cases p.unranked (pins_at drivers s)) [
           | inl pins ↦ inl (record { within = within; marked = marked; pins = λ _. pins })
-          | inr pin ↦ inr (λ _. record { gate = gate; k = pin.0; below = pin.1; marked = pin.2 })
+          | inr pin ↦ inr (λ _. record { gate = gate; k = pin.0; below = pin.1.below; marked = pin.1.marked })
         ]
       ]
     ]
@@ -183,18 +193,37 @@ some_ready drivers p (suc n) h =
       ]
     ]
 
--- the ranks, where no signal is ready
-ranks_at_end : (drivers : List Driver) → HasNoLoop drivers → (p : Progress) → IsSound drivers p → ((s : ℕ) → s < length drivers → get_or p.unranked s false ≡ true → HasMarkedPin drivers p.unranked s)
-    → (ranks : List ℕ) × IsRank drivers ranks
-ranks_at_end drivers no_loop p sound waiting = (p.ranks, (all_ranked drivers p sound unmarked).0) where
-  has : (s : ℕ) → get_or p.unranked s false ≡ true → HasMarkedPin drivers p.unranked s
-  has s marked =
-      let within : s < length p.unranked = marked_within p.unranked s marked in
-      let size : length p.unranked ≡ length drivers = sound.unranked_size in
-      waiting s (omega arith) marked
+-- there are ranks, or loops feed some signals, at least this one
+pub data RankedOrFed (drivers : List Driver) : Type 0 where
+  with_ranks : (ranks : List ℕ) → IsRank drivers ranks → RankedOrFed drivers
+  with_fed : (marks : List Bool) → MarksFed drivers marks → (s : ℕ) → get_or marks s false ≡ true → RankedOrFed drivers
 
-  unmarked : (s : ℕ) → IsUnmarked p.unranked s
-  unmarked s = false_from_ne_true (get_or p.unranked s false) (λ marked. no_loop (number s) (marked_fed drivers p.unranked sound.unranked_size has (number s) marked))
+some_mark : (marks : List Bool) → ((s : ℕ) → IsUnmarked marks s) ⊎ ((s : ℕ) × (get_or marks s false ≡ true))
+some_mark [] = inl (λ s. refl)
+some_mark (mark ∷ marks) =
+    elim (cases_Bool mark) [
+      | inl is ↦ inr (0, is)
+      | inr not ↦ elim (some_mark marks) [ inl none ↦ inl (all not none) | inr found ↦ inr (suc found.0, found.1) ]
+    ] where
+      all : mark ≡ false → ((s : ℕ) → IsUnmarked marks s) → (s : ℕ) → IsUnmarked (mark ∷ marks) s
+      all not none zero = not
+      all not none (suc s) = none s
+
+-- where no signal is ready
+at_end : (drivers : List Driver) (p : Progress) → IsSound drivers p → ((s : ℕ) → s < length drivers → get_or p.unranked s false ≡ true → HasMarkedPin drivers p.unranked s) → RankedOrFed drivers
+at_end drivers p sound waiting =
+    elim (some_mark p.unranked) [
+      | inl none ↦ with_ranks p.ranks (all_ranked drivers p sound none).0
+      | inr found ↦ with_fed p.unranked marks found.0 found.1
+    ] where
+      has : (s : ℕ) → get_or p.unranked s false ≡ true → HasMarkedPin drivers p.unranked s
+      has s marked =
+          let within : s < length p.unranked = marked_within p.unranked s marked in
+          let size : length p.unranked ≡ length drivers = sound.unranked_size in
+          waiting s (omega arith) marked
+
+      marks : MarksFed drivers p.unranked
+      marks = fed_marks drivers p sound has
 
 ready_rank : (drivers : List Driver) (p : Progress) → IsSound drivers p → (s : ℕ) → IsReady drivers p s → IsRanked drivers p (number s) (rank_by p.ranks (driver_at drivers s))
 ready_rank drivers p sound s ready = record { sound = sound; within = ready.within; marked = ready.marked; rank_is = refl; pins = ready.pins }
@@ -205,23 +234,30 @@ fewer drivers p sound s ready =
     let within : s < length drivers = ready.within in
     count-set p.unranked s (omega arith) ready.marked
 
-ranks_from : (drivers : List Driver) → HasNoLoop drivers → (m : ℕ) (p : Progress) → IsSound drivers p → count_by (λ b. b) p.unranked ≤ m → (ranks : List ℕ) × IsRank drivers ranks
-ranks_from drivers no_loop zero p sound few =
+ranked_from : (drivers : List Driver) (m : ℕ) (p : Progress) → IsSound drivers p → count_by (λ b. b) p.unranked ≤ m → RankedOrFed drivers
+ranked_from drivers zero p sound few =
     elim (some_ready drivers p (length drivers) (omega arith)) [
-      | inr waiting ↦ ranks_at_end drivers no_loop p sound waiting
+      | inr waiting ↦ at_end drivers p sound waiting
       | inl found ↦ let less : count_by (λ b. b) (set p.unranked found.0 false) + 1 ≡ count_by (λ b. b) p.unranked = fewer drivers p sound found.0 found.1 in absurd (omega arith)
     ]
-ranks_from drivers no_loop (suc m) p sound few =
+ranked_from drivers (suc m) p sound few =
     elim (some_ready drivers p (length drivers) (omega arith)) [
-      | inr waiting ↦ ranks_at_end drivers no_loop p sound waiting
+      | inr waiting ↦ at_end drivers p sound waiting
       | inl found ↦
           let less : count_by (λ b. b) (set p.unranked found.0 false) + 1 ≡ count_by (λ b. b) p.unranked = fewer drivers p sound found.0 found.1 in
           let rank : ℕ = rank_by p.ranks (driver_at drivers found.0) in
-          ranks_from drivers no_loop m (with_rank p (number found.0) rank) (sound_with_rank drivers p (number found.0) rank (ready_rank drivers p sound found.0 found.1)) (omega arith)
+          ranked_from drivers m (with_rank p (number found.0) rank) (sound_with_rank drivers p (number found.0) rank (ready_rank drivers p sound found.0 found.1)) (omega arith)
     ]
 
+pub ranked_or_fed : (drivers : List Driver) → RankedOrFed drivers
+ranked_or_fed drivers = ranked_from drivers (length drivers) (start_of (length drivers)) (start_is_sound drivers) (let low : _ ≤ length drivers = (start_is_sound drivers).low 0 in omega arith)
+
 pub ranks_exist : RanksExist
-ranks_exist drivers no_loop = ranks_from drivers no_loop (length drivers) (start_of (length drivers)) (start_is_sound drivers) (let low : _ ≤ length drivers = (start_is_sound drivers).low 0 in omega arith)
+ranks_exist drivers no_loop =
+    elim (ranked_or_fed drivers) [
+      | with_ranks ranks is_rank ↦ (ranks, is_rank)
+      | with_fed marks are s marked ↦ absurd (no_loop (number s) ((are.each (number s)).0 marked))
+    ]
 
 -- gates are the signals with ranks above 0, so the list by rank is the order
 pub order_by_rank : (drivers : List Driver) (ranks : List ℕ) (order : List Sig) → IsRank drivers ranks → IsByRank ranks order → IsOrder drivers order

@@ -17,7 +17,7 @@ use Rattle.netlist.specs.declared.wiring.Node.{Node}
 use Rattle.netlist.specs.Numbering.{driven_name, drives, driver_by, driver_for, drivers_of, mentions, names_of, pin_names, pins_of, place_in, sig_in, sig_of, stated_driver, HasPinCount}
 use Rattle.netlist.specs.Laws.{NamesHaveNumbers, MentionsHaveNumbers, NamesAreMentioned, NamesDiffer, DriversHavePinCounts}
 use Rattle.netlist.specs.Wiring as wiring
-use Rattle.netlist.specs.Wiring.{driver_of, drivers_from, IsNodeWithin}
+use Rattle.netlist.specs.Nodes.{driver_of, drivers_from, IsNodeWithin}
 use Rattle.netlist.specs.Checks.{without_lines, HasFewSignals, HasFewPins, IsDrivenOnce, IsDriven, IsFirstUndriven, IsRefusal}
 use Rattle.netlist.specs.Driving.{driver_among, HoldsDrivers, AreWithin, IsFirstWithout, IsLack}
 use Rattle.netlist.proofs.Driving.{node_driven}

@@ -14,7 +14,8 @@ use Rattle.netlist.specs.Entries.{has_sig}
 use Rattle.netlist.specs.declared.wiring.Node.{Node}
 use Rattle.sr_model.specs.declared.gates.Kind.{Kind}
 use Rattle.netlist.proofs.EachItem.{driver_at-node}
-use Rattle.netlist.specs.Wiring.{driver_by, drivers_from, driver_at, reads, readers, signals_below, is_driven, has_signal}
+use Rattle.netlist.specs.Wiring.{driver_at, reads, readers, signals_below, is_driven, has_signal}
+use Rattle.netlist.specs.Nodes.{driver_by, drivers_from}
 
 abbrev sig : ℕ → Sig
 sig s = record { 0 = s }

@@ -9,7 +9,7 @@ use Rattle.netlist.specs.declared.wiring.Node.{Node}
 use Rattle.netlist.specs.declared.checks.NetRefusal.{NetRefusal}
 use Rattle.netlist.specs.declared.checks.NetRefusal.TheVariants.{NoDriver, NoMemory}
 use Rattle.netlist.specs.Numbering.{drives, pin_names, stated_driver}
-use Rattle.netlist.specs.Wiring.{driver_of, IsNodeWithin}
+use Rattle.netlist.specs.Nodes.{driver_of, IsNodeWithin}
 
 -- the kind of gate or flip-flop that a statement states
 abbrev pub kind_stated : Declaration → Option Kind

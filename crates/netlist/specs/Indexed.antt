@@ -4,7 +4,8 @@ use Rattle.std.specs.List.{All}
 use Rattle.sr_model.specs.declared.cells.Sig.{Sig}
 use Rattle.netlist.specs.declared.wiring.Node.{Node}
 use Rattle.netlist.specs.Entries.{AreMarksOf}
-use Rattle.netlist.specs.Wiring.{readers, other_readers, signals_of, pin_parities, flip_flops, drivers_from, IsNodeWithin}
+use Rattle.netlist.specs.Wiring.{readers, other_readers, signals_of, pin_parities, flip_flops}
+use Rattle.netlist.specs.Nodes.{drivers_from, IsNodeWithin}
 
 -- the lists are these, one for each of so many signals
 pub record AreListsOf (count : ℕ) (lists : List (List Sig)) (list_of : Sig → List Sig) : Type 0 where

@@ -1,5 +1,5 @@
 -- The laws of netlists, for every list of statements and every list of drivers.
-use Rattle.std.specs.Prelude.{ℕ, ◌≡◌, ◌≢◌, ◌↔◌, List, Some, slice_get, Contains, All, AllPairs}
+use Rattle.std.specs.Prelude.{ℕ, ◌≡◌, ◌≢◌, ◌⊎◌, ◌↔◌, List, Some, slice_get, Contains, All, AllPairs}
 use Rattle.std.specs.List.{flat_map}
 use Rattle.sr_model.specs.declared.cells.Sig.{Sig}
 use Rattle.sr_model.specs.Declaration.{Declaration}
@@ -80,3 +80,7 @@ RefusalIsUnique = (ds : List (ℕ × Declaration)) (a b : NetRefusal) → IsRefu
 -- a netlist is refused for want of memory alone
 abbrev pub NetlistsAreNotRefused : Type 0
 NetlistsAreNotRefused = (ds : List (ℕ × Declaration)) (r : NetRefusal) → IsNetlist (without_lines ds) → IsRefusal ds r → r ≡ NoMemory
+
+-- each list of statements stands for a netlist, or has a refusal other than want of memory
+abbrev pub IsNetlistOrRefused : Type 0
+IsNetlistOrRefused = (ds : List (ℕ × Declaration)) → IsNetlist (without_lines ds) ⊎ ((r : NetRefusal) × IsRefusal ds r × (r ≢ NoMemory))

@@ -5,6 +5,8 @@ pub mod Entries
 pub mod Indexed
 pub mod Laws
 pub mod Loops
+pub mod Mentions
+pub mod Nodes
 pub mod Numbering
 pub mod Ranking
 pub mod Ranks

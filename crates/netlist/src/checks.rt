@@ -7,28 +7,21 @@ ghost use Rattle.netlist.specs.Numbering.{IsSignalName, IsStatement};
 
 use sr_model::{Bytes, Kind, Names, NoMemory, Statement, Statements};
 use sr_text::name_ok;
-use thiserror::Error;
 
 /// Why the statements of a text are no netlist.
-#[derive(Debug, Drop, Error)]
+#[derive(Debug, Drop)]
 pub enum NetRefusal {
     /// There are more than 65,536 signals: this line first mentions the name of the one after those.
-    #[error("line {line}: too many signals")]
     TooManySignals { line: u64 },
     /// There are more than 1,048,576 pins: with this line their number first passes that.
-    #[error("line {line}: too many pins")]
     TooManyPins { line: u64 },
     /// The first line that drives a name that an earlier line drives.
-    #[error("line {line}: two drivers")]
     TwoDrivers { line: u64 },
     /// No line drives this name, which is mentioned before any other such name.
-    #[error("no driver")]
     NoDriver { name: Bytes },
     /// The gates drive each other in a loop of so many signals, this one among them.
-    #[error("a loop of {length} signals")]
     Loop { name: Bytes, length: u32 },
     /// Memory was refused.
-    #[error("no memory")]
     NoMemory,
 }
 

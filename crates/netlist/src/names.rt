@@ -1,12 +1,13 @@
 //! The names of a netlist, each once, with their numbers.
-ghost use Rattle.std.specs.Prelude.{◌≡◌, ◌<◌, ◌≤◌, [], ◌∷◌, ◌++◌, length, Contains, slice_get, Some, IfOk, OnOk, OnErr};
+ghost use Rattle.std.specs.Prelude.{◌≡◌, ◌+◌, ◌^◌, ◌<◌, ◌≤◌, [], ◌∷◌, ◌++◌, length, map, Contains, slice_get, Some, IfOk, OnOk, OnErr};
 ghost use Rattle.std.specs.Option.{SomeIff};
 ghost use Rattle.sr_model.specs.Room.{texts};
 ghost use Rattle.sr_model.specs.Declaration.{declaration_of};
-ghost use Rattle.netlist.specs.Numbering.{once, mentions, sig_in};
+ghost use Rattle.netlist.specs.Numbering.{once, mentions, pin_names, sig_in};
+ghost use Rattle.netlist.specs.Mentions.{first_mention};
 
 use indexmap::IndexSet;
-use sr_model::{Bytes, Names, NoMemory, Sequence, Sig, Statement};
+use sr_model::{Bytes, Names, NoMemory, Sequence, Sig, Sigs, Statement};
 use std::alloc::{AllocError, Global};
 use std::marker::Model;
 
@@ -44,47 +45,73 @@ impl NameTable {
         self.names.len()
     }
 
-    /// Adds a name where it is new. It takes memory for a new name alone, and a refusal leaves the names as they were.
-    pub(crate) fn add(&mut self, alloc: Global, name: &[u8]) -> Result<(), NoMemory>
+    /// The signal of a name, which is added where it is new. A name that is there is looked up once, and a new one twice. It takes memory for a new
+    /// name alone, and a refusal leaves the names as they were.
+    pub(crate) fn add(&mut self, alloc: Global, name: &[u8]) -> Result<Sig, NoMemory>
+        requires { length self.old < 2 ^ 32 }
         ensures ok { OnOk result (self.new ≡ once (self.old ++ name.now ∷ [])) }
+        ensures sig { IfOk result (λ s. s ≡ sig_in self.new name.now) }
         ensures err { OnErr result (self.new ≡ self.old) }
     {
-        if self.names.contains(name) {
-            return Ok(());
+        if let Some(number) = self.names.get_index_of(name) {
+            return Ok(Sig(number as u32));
         }
+        let number = self.names.len();
         let Ok(copy) = Vec::from_slice(alloc, name) else {
             return Err(NoMemory);
         };
         let Ok(_) = self.names.insert(copy) else {
             return Err(NoMemory);
         };
-        Ok(())
+        Ok(Sig(number as u32))
     }
 
-    /// Adds each name of a list in turn, where it is new.
-    pub(crate) fn add_all(&mut self, alloc: Global, names: &Names) -> Result<(), NoMemory>
-        ensures { OnOk result (self.new ≡ once (self.old ++ texts names.now)) }
+    /// Adds each name of a list in turn, where it is new, and its signal to the signals.
+    pub(crate) fn add_all(
+        &mut self,
+        alloc: Global,
+        names: &Names,
+        sigs: &mut Sigs,
+    ) -> Result<(), NoMemory>
+        requires { length self.old + length names.now.items < 2 ^ 32 }
+        ensures names { OnOk result (self.new ≡ once (self.old ++ texts names.now)) }
+        ensures sigs { OnOk result (sigs.new.items ≡ sigs.old.items ++ map (sig_in self.new) (texts names.now)) }
     {
         let _ = &self.names;
         for name in names.as_slice() {
-            self.add(alloc, name.as_slice())?;
+            let sig = self.add(alloc, name.as_slice())?;
+            sigs.push(sig)?;
         }
         Ok(())
     }
 
-    /// Adds each name that a statement mentions, where it is new.
+    /// Adds each name that a statement mentions, where it is new: the signal of its first to the firsts, and those of its pins to the pins.
     pub(crate) fn add_mentions(
         &mut self,
         alloc: Global,
         statement: &Statement,
+        firsts: &mut Sigs,
+        pins: &mut Sigs,
     ) -> Result<(), NoMemory>
-        ensures { OnOk result (self.new ≡ once (self.old ++ mentions (declaration_of statement.now))) }
+        requires few { length self.old ≤ 65536 }
+        requires pins { length (pin_names (declaration_of statement.now)) ≤ 1024 }
+        ensures names { OnOk result (self.new ≡ once (self.old ++ mentions (declaration_of statement.now))) }
+        ensures firsts { OnOk result (firsts.new.items ≡ firsts.old.items ++ sig_in self.new (first_mention (declaration_of statement.now)) ∷ []) }
+        ensures pins { OnOk result (pins.new.items ≡ pins.old.items ++ map (sig_in self.new) (pin_names (declaration_of statement.now))) }
     {
         match statement {
-            Statement::Input(name) | Statement::OutputOf(name) => self.add(alloc, name.as_slice()),
-            Statement::Drive { target, pins, .. } => {
-                self.add(alloc, target.as_slice())?;
-                self.add_all(alloc, pins)
+            Statement::Input(name) | Statement::OutputOf(name) => {
+                let first = self.add(alloc, name.as_slice())?;
+                firsts.push(first)
+            }
+            Statement::Drive {
+                target,
+                pins: names,
+                ..
+            } => {
+                let first = self.add(alloc, target.as_slice())?;
+                firsts.push(first)?;
+                self.add_all(alloc, names, pins)
             }
         }
     }
@@ -96,19 +123,6 @@ impl NameTable {
     {
         let number = self.names.get_index_of(name)?;
         Some(Sig(number as u32))
-    }
-
-    /// The signal of a name of the table.
-    pub(crate) fn sig(&self, name: &[u8]) -> Sig
-        requires few { length self.now ≤ 65536 }
-        requires member { Contains self.now name.now }
-        ensures sig { result ≡ sig_in self.now name.now }
-        ensures below { result.0 < length self.now }
-    {
-        match self.find(name) {
-            Some(sig) => sig,
-            None => unreachable!(),
-        }
     }
 
     /// The bytes of the name with a number.

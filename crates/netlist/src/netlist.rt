@@ -42,7 +42,8 @@ impl Model for Netlist {
 
 /// The netlist of the statements of a text, or why they are none.
 ///
-/// The refusals are tried in the order of `NetRefusal`, each over all statements. Time and memory are linear in the statements and their pins.
+/// The refusals are tried in the order of `NetRefusal`, each over all statements. Time and memory are linear in the statements, their pins and the
+/// bytes of their names. Names that were made to collide in a hash table take longer: up to the square of their number.
 pub fn build(alloc: Global, s: &Statements) -> Result<Netlist, NetRefusal>
     requires { All IsStatement (declared s.now) }
     ensures netlist { OnOk result (IsNetlist (declared s.now)) }
@@ -84,7 +85,8 @@ impl Netlist {
         self.names.get(s.0 as usize)
     }
 
-    /// The signal of a name, None exactly where no signal has it. Time is linear in the bytes of the name.
+    /// The signal of a name, None exactly where no signal has it. Time is linear in the bytes of the name, unless names were made to collide:
+    /// then up to the number of names.
     pub fn find(&self, name: &[u8]) -> Option<Sig>
         ensures some { IfSome result (λ s. slice_get self.now.names s.0 ≡ Some name.now) }
         ensures none { IsNone result → ¬ Contains self.now.names name.now }

@@ -1,18 +1,17 @@
 //! Numbers the names of a netlist's text by their first mentions, and finds what drives each.
-ghost use Rattle.std.specs.Prelude.{◌≡◌, ◌<◌, ◌≤◌, ◌++◌, map, length, All, Contains, IfOk, IfErr, OnOk, Some, option_map};
+ghost use Rattle.std.specs.Prelude.{◌≡◌, ◌<◌, ◌≤◌, [], ◌∷◌, map, length, All, IfOk, IfErr, OnOk, Some, if◌then◌else◌};
 ghost use Rattle.std.specs.List.{flat_map};
-ghost use Rattle.std.specs.Option.{option_to_list};
-ghost use Rattle.sr_model.specs.Room.{texts};
 ghost use Rattle.sr_model.specs.Declaration.{declared, declarations_of, declaration_of};
-ghost use Rattle.netlist.specs.Numbering.{names_of, sig_in, driven_name, pin_names, inputs_of, outputs_of, pins_of, drivers_of, HasPinCount};
+ghost use Rattle.netlist.specs.Numbering.{names_of, sig_in, sig_of, driven_name, pin_names, inputs_of, outputs_of, pins_of, drivers_of, HasPinCount};
+ghost use Rattle.netlist.specs.Mentions.{first_mention};
 ghost use Rattle.netlist.specs.Checks.{HasFewSignals, HasFewPins, IsDrivenOnce, IsAccepted, IsRefusal};
 ghost use Rattle.netlist.specs.Driving.{node_at, HoldsDrivers, AreWithin, IsLack};
-ghost use Rattle.netlist.specs.Wiring.{driver_of, drivers_from, IsNodeWithin};
+ghost use Rattle.netlist.specs.Nodes.{driver_of, drivers_from, IsNodeWithin};
 
 use crate::checks::NetRefusal;
 use crate::names::{NameTable, to_bytes};
 use crate::wiring::Node;
-use sr_model::{Bytes, Names, NoMemory, Sequence, Sig, Sigs, Statement, Statements};
+use sr_model::{NoMemory, Sequence, Sig, Sigs, Statement, Statements};
 use std::alloc::Global;
 
 const MAX_SIGNALS: usize = 65_536;
@@ -34,20 +33,50 @@ pub(crate) struct Numbering {
     pub(crate) outputs: Vec<Sig>,
 }
 
-/// The names in the order of their first mentions, up to the line with the name that is one too many.
-fn number_names(alloc: Global, s: &Statements) -> Result<NameTable, NetRefusal>
-    ensures names { IfOk result (λ names. names ≡ names_of (declared s.now)) }
+/// The names of a text, and what their mentions are the signals of.
+#[derive(Drop)]
+struct Mentions {
+    names: NameTable,
+    /// The signal that each statement mentions first.
+    firsts: Vec<Sig>,
+    /// The pins of all statements, one after the other.
+    pins: Vec<Sig>,
+}
+
+/// The number of all pins, or as many as there may be where they are more.
+fn pin_room(s: &Statements) -> usize {
+    let mut count: usize = 0;
+    for stated in s.as_slice() {
+        count = count
+            .saturating_add(pin_count(&stated.statement))
+            .min(MAX_PINS);
+    }
+    count
+}
+
+/// The names in the order of their first mentions, up to the line with the name that is one too many, and the signals of the mentions.
+fn number_names(alloc: Global, s: &Statements) -> Result<Mentions, NetRefusal>
+    requires { All HasPinCount (declared s.now) }
+    ensures names { IfOk result (λ m. m.names ≡ names_of (declared s.now)) }
+    ensures firsts { IfOk result (λ m. m.firsts.items ≡ map (λ d. sig_in m.names (first_mention d)) (declared s.now)) }
+    ensures pins { IfOk result (λ m. m.pins.items ≡ pins_of (declared s.now)) }
     ensures few { OnOk result (HasFewSignals (declared s.now)) }
     ensures refused { IfErr result (IsRefusal (declarations_of s.now)) }
 {
     let mut names = NameTable::new(alloc);
+    let mut firsts = Sigs::with_room(alloc, s.len())?;
+    let mut pins = Sigs::with_room(alloc, pin_room(s))?;
     for stated in s.as_slice() {
-        names.add_mentions(alloc, &stated.statement)?;
+        names.add_mentions(alloc, &stated.statement, &mut firsts, &mut pins)?;
         if names.len() > MAX_SIGNALS {
             return Err(NetRefusal::TooManySignals { line: stated.line });
         }
     }
-    Ok(names)
+    Ok(Mentions {
+        names,
+        firsts: firsts.into_vec(),
+        pins: pins.into_vec(),
+    })
 }
 
 /// The number of the statement's pins.
@@ -60,11 +89,10 @@ fn pin_count(statement: &Statement) -> usize
     }
 }
 
-/// The number of all pins, up to the line with which they are too many.
-fn count_pins(s: &Statements) -> Result<usize, NetRefusal>
+/// Whether the pins are few enough, up to the line with which they are too many.
+fn check_pins(s: &Statements) -> Result<(), NetRefusal>
     requires pin_counts { All HasPinCount (declared s.now) }
     requires few_signals { HasFewSignals (declared s.now) }
-    ensures count { IfOk result (λ count. count ≡ length (flat_map pin_names (declared s.now))) }
     ensures few { OnOk result (HasFewPins (declared s.now)) }
     ensures refused { IfErr result (IsRefusal (declarations_of s.now)) }
 {
@@ -75,59 +103,16 @@ fn count_pins(s: &Statements) -> Result<usize, NetRefusal>
             return Err(NetRefusal::TooManyPins { line: stated.line });
         }
     }
-    Ok(count)
-}
-
-/// The signals of all pins, one statement's after the other's.
-fn number_pins(
-    alloc: Global,
-    names: &NameTable,
-    s: &Statements,
-    count: usize,
-) -> Result<Sigs, NoMemory>
-    requires names { names.now ≡ names_of (declared s.now) }
-    requires few { HasFewSignals (declared s.now) }
-    ensures { IfOk result (λ pins. pins.items ≡ pins_of (declared s.now)) }
-{
-    let mut pins = Sigs::with_room(alloc, count)?;
-    for stated in s.as_slice() {
-        push_pins(&mut pins, names, &stated.statement)?;
-    }
-    Ok(pins)
-}
-
-/// Adds the signals of a statement's pins.
-fn push_pins(sigs: &mut Sigs, names: &NameTable, statement: &Statement) -> Result<(), NoMemory>
-    requires few { length names.now ≤ 65536 }
-    requires members { All (Contains names.now) (pin_names (declaration_of statement.now)) }
-    ensures { OnOk result (sigs.new.items ≡ sigs.old.items ++ map (sig_in names.now) (pin_names (declaration_of statement.now))) }
-{
-    match statement {
-        Statement::Input(_) | Statement::OutputOf(_) => Ok(()),
-        Statement::Drive { pins, .. } => push_all(sigs, names, pins),
-    }
-}
-
-/// Adds the signal of each name.
-fn push_all(sigs: &mut Sigs, names: &NameTable, pins: &Names) -> Result<(), NoMemory>
-    requires few { length names.now ≤ 65536 }
-    requires members { All (Contains names.now) (texts pins.now) }
-    ensures { OnOk result (sigs.new.items ≡ sigs.old.items ++ map (sig_in names.now) (texts pins.now)) }
-{
-    for pin in pins.as_slice() {
-        sigs.push(names.sig(pin.as_slice()))?;
-    }
     Ok(())
 }
 
-/// The name that a statement drives.
-fn target_of(statement: &Statement) -> Option<&Bytes>
-    ensures { driven_name (declaration_of statement.now) ≡ option_to_list (option_map (λ name. name.now.items) result) }
+/// Whether a statement drives the name that it mentions first.
+fn is_driving(statement: &Statement) -> bool
+    ensures { driven_name (declaration_of statement.now) ≡ (if result then first_mention (declaration_of statement.now) ∷ [] else []) }
 {
     match statement {
-        Statement::Input(name) => Some(name),
-        Statement::OutputOf(_) => None,
-        Statement::Drive { target, .. } => Some(target),
+        Statement::Input(_) | Statement::Drive { .. } => true,
+        Statement::OutputOf(_) => false,
     }
 }
 
@@ -151,8 +136,14 @@ fn node_of(statement: &Statement, first_pin: u32) -> Node
 }
 
 /// What drives each signal, where a statement does, up to the line that drives one again.
-fn drive(alloc: Global, names: &NameTable, s: &Statements) -> Result<Vec<Option<Node>>, NetRefusal>
+fn drive(
+    alloc: Global,
+    names: &NameTable,
+    firsts: &[Sig],
+    s: &Statements,
+) -> Result<Vec<Option<Node>>, NetRefusal>
     requires names { names.now ≡ names_of (declared s.now) }
+    requires firsts { firsts.now ≡ map (λ d. sig_in names.now (first_mention d)) (declared s.now) }
     requires few_signals { HasFewSignals (declared s.now) }
     requires few_pins { HasFewPins (declared s.now) }
     requires pin_counts { All HasPinCount (declared s.now) }
@@ -165,11 +156,11 @@ fn drive(alloc: Global, names: &NameTable, s: &Statements) -> Result<Vec<Option<
         return Err(NetRefusal::NoMemory);
     };
     let mut first_pin = 0;
-    for stated in s.as_slice() {
-        let Some(target) = target_of(&stated.statement) else {
+    for (i, stated) in s.as_slice().iter().enumerate() {
+        if !is_driving(&stated.statement) {
             continue;
-        };
-        let number = names.sig(target.as_slice()).0 as usize;
+        }
+        let number = firsts[i].0 as usize;
         if nodes[number].is_some() {
             return Err(NetRefusal::TwoDrivers { line: stated.line });
         }
@@ -202,36 +193,40 @@ fn settle(
 }
 
 /// The signals of the INPUT statements, in order.
-fn number_inputs(alloc: Global, names: &NameTable, s: &Statements) -> Result<Sigs, NoMemory>
-    requires names { names.now ≡ names_of (declared s.now) }
-    requires few { HasFewSignals (declared s.now) }
+fn number_inputs(alloc: Global, firsts: &[Sig], s: &Statements) -> Result<Sigs, NoMemory>
+    requires { firsts.now ≡ map (λ d. sig_of (declared s.now) (first_mention d)) (declared s.now) }
     ensures { IfOk result (λ inputs. inputs.items ≡ inputs_of (declared s.now)) }
 {
     let mut inputs = Sequence::new(alloc);
-    for stated in s.as_slice() {
-        let Statement::Input(name) = &stated.statement else {
+    for (i, stated) in s.as_slice().iter().enumerate() {
+        let Statement::Input(_) = &stated.statement else {
             continue;
         };
-        inputs.push(names.sig(name.as_slice()))?;
+        inputs.push(firsts[i])?;
     }
     Ok(inputs)
 }
 
 /// The signals of the OUTPUT statements, each where its first one stands.
-fn number_outputs(alloc: Global, names: &NameTable, s: &Statements) -> Result<Sigs, NoMemory>
+fn number_outputs(
+    alloc: Global,
+    names: &NameTable,
+    firsts: &[Sig],
+    s: &Statements,
+) -> Result<Sigs, NoMemory>
     requires names { names.now ≡ names_of (declared s.now) }
-    requires few { HasFewSignals (declared s.now) }
+    requires firsts { firsts.now ≡ map (λ d. sig_in names.now (first_mention d)) (declared s.now) }
     ensures { IfOk result (λ outputs. outputs.items ≡ outputs_of (declared s.now)) }
 {
     let mut outputs = Sequence::new(alloc);
     let Ok(mut listed) = vec![in alloc; false; names.len()] else {
         return Err(NoMemory);
     };
-    for stated in s.as_slice() {
-        let Statement::OutputOf(name) = &stated.statement else {
+    for (i, stated) in s.as_slice().iter().enumerate() {
+        let Statement::OutputOf(_) = &stated.statement else {
             continue;
         };
-        let sig = names.sig(name.as_slice());
+        let sig = firsts[i];
         let number = sig.0 as usize;
         if listed[number] {
             continue;
@@ -244,8 +239,8 @@ fn number_outputs(alloc: Global, names: &NameTable, s: &Statements) -> Result<Si
 
 /// Numbers the names of a text by their first mentions, and finds what drives each signal.
 ///
-/// The rules are tried one after the other, each over all statements. It looks up each mention twice, and takes memory for a new name alone:
-/// the time is linear in the bytes of the text.
+/// The rules are tried one after the other, each over all statements. It looks up each mention once, and a new name once more to put it in; it
+/// takes memory for a new name alone, and four bytes a mention. The time is linear in the bytes of the text, unless names were made to collide.
 pub(crate) fn number(alloc: Global, s: &Statements) -> Result<Numbering, NetRefusal>
     requires { All HasPinCount (declared s.now) }
     ensures accepted { OnOk result (IsAccepted (declared s.now)) }
@@ -258,17 +253,16 @@ pub(crate) fn number(alloc: Global, s: &Statements) -> Result<Numbering, NetRefu
     ensures nodes { IfOk result (λ n. All (IsNodeWithin (length n.pins.items)) n.nodes.items) }
     ensures refused { IfErr result (IsRefusal (declarations_of s.now)) }
 {
-    let names = number_names(alloc, s)?;
-    let pin_count = count_pins(s)?;
-    let driven = drive(alloc, &names, s)?;
-    let nodes = settle(alloc, &names, driven.as_slice())?.into_vec();
-    let pins = number_pins(alloc, &names, s, pin_count)?.into_vec();
-    let inputs = number_inputs(alloc, &names, s)?.into_vec();
-    let outputs = number_outputs(alloc, &names, s)?.into_vec();
+    let mentions = number_names(alloc, s)?;
+    check_pins(s)?;
+    let driven = drive(alloc, &mentions.names, &mentions.firsts, s)?;
+    let nodes = settle(alloc, &mentions.names, driven.as_slice())?.into_vec();
+    let inputs = number_inputs(alloc, &mentions.firsts, s)?.into_vec();
+    let outputs = number_outputs(alloc, &mentions.names, &mentions.firsts, s)?.into_vec();
     Ok(Numbering {
-        names,
+        names: mentions.names,
         nodes,
-        pins,
+        pins: mentions.pins,
         inputs,
         outputs,
     })

@@ -1,7 +1,8 @@
 //! Which signals stand an odd number of times among the pins of each gate and flip-flop.
 ghost use Rattle.std.specs.Prelude.{ℕ, ◌≡◌, ◌<◌, ◌≤◌, ◌++◌, if◌then◌else◌, true, false, length, map, slice_index_or, IfOk, OnOk};
 ghost use Rattle.std.specs.List.{All};
-ghost use Rattle.netlist.specs.Wiring.{signals_of, pin_parities, IsNodeWithin, drivers_from};
+ghost use Rattle.netlist.specs.Wiring.{signals_of, pin_parities};
+ghost use Rattle.netlist.specs.Nodes.{IsNodeWithin, drivers_from};
 ghost use Rattle.netlist.specs.Entries.{has_sig, is_odd_in, AreMarksOf};
 ghost use Rattle.netlist.specs.Indexed.{AreListsOf};
 

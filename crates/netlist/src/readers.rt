@@ -1,7 +1,8 @@
 //! The readers of each signal.
 ghost use Rattle.std.specs.Prelude.{ℕ, ◌≡◌, ◌<◌, ◌≤◌, ◌==◌, not, length, IfOk};
 ghost use Rattle.std.specs.List.{All, filter};
-ghost use Rattle.netlist.specs.Wiring.{readers, IsNodeWithin, drivers_from};
+ghost use Rattle.netlist.specs.Wiring.{readers};
+ghost use Rattle.netlist.specs.Nodes.{IsNodeWithin, drivers_from};
 ghost use Rattle.netlist.specs.Entries.{items_in};
 
 use crate::lists::{Entry, push_item};

@@ -1,7 +1,8 @@
 //! The signals of each gate and flip-flop.
 ghost use Rattle.std.specs.Prelude.{ℕ, ◌≡◌, ◌<◌, ◌≤◌, ◌++◌, ◌∷◌, [], if◌then◌else◌, length, IfOk, OnOk};
 ghost use Rattle.std.specs.List.{All};
-ghost use Rattle.netlist.specs.Wiring.{readers, signals_of, drivers_from, driver_by, is_driven};
+ghost use Rattle.netlist.specs.Wiring.{readers, signals_of, is_driven};
+ghost use Rattle.netlist.specs.Nodes.{drivers_from, driver_by};
 ghost use Rattle.netlist.specs.Entries.{items_in};
 ghost use Rattle.netlist.specs.Indexed.{AreListsOf};
 

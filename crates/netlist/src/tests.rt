@@ -76,7 +76,16 @@ fn text_of(alloc: Global, found: &Result<Netlist, NetRefusal>) -> Result<Vec<u8>
             text.extend_from_slice(format!(in alloc; "loop {length} ")?.as_bytes())?;
             text.extend_from_slice(name.as_slice())?;
         }
-        Err(refusal) => text.extend_from_slice(format!(in alloc; "{refusal}")?.as_bytes())?,
+        Err(refusal) => text.extend_from_slice(line_of(alloc, refusal)?.as_bytes())?,
     }
     Ok(text)
+}
+
+fn line_of(alloc: Global, refusal: &NetRefusal) -> Result<String, Fail> {
+    Ok(match refusal {
+        NetRefusal::TooManySignals { line } => format!(in alloc; "line {line}: too many signals")?,
+        NetRefusal::TooManyPins { line } => format!(in alloc; "line {line}: too many pins")?,
+        NetRefusal::TwoDrivers { line } => format!(in alloc; "line {line}: two drivers")?,
+        _ => format!(in alloc; "no memory")?,
+    })
 }

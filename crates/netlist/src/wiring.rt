@@ -1,7 +1,8 @@
 //! The pins and readers of each signal in flat arrays.
 ghost use Rattle.std.specs.Prelude.{◌≡◌, ◌<◌, ◌≤◌, List, length, IfOk};
 ghost use Rattle.std.specs.List.{All};
-ghost use Rattle.netlist.specs.Wiring.{driver_at, kind_of, pins_of, readers, other_readers, signals_of, pin_parities, flip_flops, is_flip_flop, IsWired, IsNodeWithin, driver_of, drivers_from};
+ghost use Rattle.netlist.specs.Wiring.{driver_at, kind_of, pins_of, readers, other_readers, signals_of, pin_parities, flip_flops, is_flip_flop, IsWired};
+ghost use Rattle.netlist.specs.Nodes.{IsNodeWithin, driver_of, drivers_from};
 ghost use Rattle.sr_model.specs.declared.cells.Sig.{Sig as AnySig};
 
 use crate::lists::SigLists;
@@ -44,7 +45,7 @@ pub(crate) struct Wiring {
 impl Model for Wiring {
     ghost use Rattle.std.specs.Prelude.{List};
     ghost use Rattle.sr_model.specs.Netlist.{Driver};
-    ghost use Rattle.netlist.specs.Wiring.{drivers_from};
+    ghost use Rattle.netlist.specs.Nodes.{drivers_from};
     ghost use Rattle.netlist.specs.Indexed.{IsIndexed};
 
     ghost Value = { List Driver };

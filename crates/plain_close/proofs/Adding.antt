@@ -1,32 +1,27 @@
 -- Planes with the literals of others, and what is done there before any turn.
-use Rattle.std.proofs.Common.{ℕ, ◌≡◌, ◌<◌, ◌≤◌, ◌+◌, ◌*◌, ◌/◌, ◌⊎◌, Bool, true, false, length, bit_and, arith, inl, inr, sym, ap, subst, ◌∙◌}
-use Rattle.std.proofs.lemmas.Bool.{cases_lt, and_parts, true≢false}
-use Rattle.std.proofs.Math.Nat.{mul-le-mul_right}
-use Rattle.std.proofs.Math.ListN.{get_or-eq_default}
+use Rattle.std.proofs.Common.{ℕ, ◌≡◌, ◌<◌, ◌≤◌, ◌+◌, ◌/◌, ◌||◌, Bool, true, false, length, bit_and, arith, inl, inr, sym, ap, subst, ◌∙◌}
+use Rattle.std.proofs.lemmas.Bool.{cases_lt, and_parts, or_cases, or_left, or_right, true≢false}
 use Rattle.sr_model.specs.declared.cells.Sig.{Sig}
 use Rattle.sr_model.specs.declared.cells.Lit.{Lit}
-use Rattle.sr_model.specs.Closure.{Closure, SameLits, lit, LitSet}
+use Rattle.sr_model.specs.Closure.{Closure, SameLits, lit, passing, LitSet}
 use Rattle.sr_model.proofs.ClosureLaws.{monotone, has_base, forced_between, closed_between}
 use Rattle.unroll.specs.declared.problem.Block.{Block}
 use Rattle.unroll.specs.declared.words.PinWord.{PinWord}
 use Rattle.unroll.specs.Bits.{is_set, is_cycle, word_for}
-use Rattle.unroll.specs.Problem.{Unrolling, unrolled, IsProblem, signals_in, chunks_in, block_at, block_of, bit_of}
+use Rattle.unroll.specs.Problem.{Unrolling, unrolled, IsProblem, signals_in, chunks_in, block_at, block_of, bit_of, HasNoLaterBit}
 use Rattle.unroll.specs.Tasks.{constant_tasks}
 use Rattle.unroll.specs.Laws.{ForcesFromNothing}
 use Rattle.unroll.proofs.BlockNumbers.{cycle-chunk, block-chunk, block-within}
-use Rattle.unroll.proofs.WordBits.{is_set_zero, is_set_and}
+use Rattle.unroll.proofs.WordBits.{is_set_and}
 use Rattle.unroll.proofs.ConstantTasks.{force_from_nothing}
 use Rattle.gate_rules.specs.Forced.{ForcedIn}
-use Rattle.known_planes.specs.Planes.{PlaneSet, has, lits, words_at, no_bits, IsOf, HasNoFurtherBit}
+use Rattle.known_planes.specs.Planes.{PlaneSet, has, lits, words_at, IsOf}
+use Rattle.known_planes.proofs.PlanesLaws.{literals_are_of_cells}
 use Rattle.plain_close.specs.Queues.{Waiting, Waits}
 use Rattle.plain_close.specs.Turns.{AreTasksOf, IsSettled, Pushed, Wakes, Joins, Adds, AddsRow, has_bit}
-use Rattle.plain_close.proofs.SameCells.{forced-on_cells}
+use Rattle.gate_rules.proofs.TaskForcing.{forced_by_cells}
 use Rattle.plain_close.proofs.Waking.{member-cases}
 use Rattle.plain_close.proofs.Turning.{has-bit_of, bit-has, has-kept}
-
--- no signal yet
-pub row-none : (u : Unrolling) (other : PlaneSet) (chunk : ℕ) (x : PlaneSet) → AddsRow u other chunk 0 x x
-row-none u other chunk x = record { joined = λ s bit i early h. absurd (omega (arith, early)); only = λ b bit i h. inl h }
 
 -- one signal more
 pub row-more : (u : Unrolling) (other : PlaneSet) (chunk n : ℕ) (x y z : PlaneSet) (w : PinWord) → AddsRow u other chunk n x y
@@ -49,10 +44,6 @@ row-more u other chunk n x y z w before bits is step = record {
     number : (n k : ℕ) → n ≤ k → k < n + 1 → n ≡ k
     number n k past early = omega (arith, past, early)
 
--- no chunk yet
-pub adds-none : (u : Unrolling) (other : PlaneSet) (x : PlaneSet) → Adds u other 0 x x
-adds-none u other x = record { joined = λ s chunk bit i h early set. absurd (omega (arith, early)); only = λ b bit i h. inl h }
-
 -- one chunk more
 pub adds-more : (u : Unrolling) (other : PlaneSet) (n : ℕ) (x y z : PlaneSet) → Adds u other n x y
     → ((b : Block) (bit : Bool) (i : ℕ) → has_bit y b bit i ≡ true → has_bit z b bit i ≡ true) → AddsRow u other n (signals_in u) y z → Adds u other (n + 1) x z
@@ -69,39 +60,21 @@ adds-more u other n x y z before bits step = record {
   ];
 }
 
--- a literal of planes is one of a signal
-pub lit-within : (u : Unrolling) (planes : PlaneSet) (l : Lit) → IsOf u planes → has u planes l ≡ true → l.cell.sig.0 < signals_in u
-lit-within u planes l of h =
-    elim (cases_lt l.cell.sig.0 (signals_in u)) [
-      | inl within ↦ within
-      | inr past ↦
-          let parts : (l.cell.cycle < u.cycles) × (has_bit planes (block_of u l.cell) l.bit (bit_of l.cell) ≡ true) = has-bit_of u planes l h in
-          let outside : length planes.words ≤ (block_of u l.cell).0 =
-          subst (λ n. n ≤ (block_of u l.cell).0) (sym of.blocks) (later (signals_in u) l.cell.sig.0 (chunks_in u) (l.cell.cycle / 64) past) in
-          absurd (true≢false (sym parts.1 ∙ ap (λ w. is_set (word_for l.bit w) (bit_of l.cell)) (get_or-eq_default planes.words no_bits outside) ∙ unset l.bit))
-    ]
-  where
-    later : (n s c k : ℕ) → n ≤ s → n * c ≤ s * c + k
-    later n s c k h = omega (arith, mul-le-mul_right c h)
-
-    unset : (bit : Bool) → is_set (word_for bit no_bits) (bit_of l.cell) ≡ false
-    unset true = is_set_zero (bit_of l.cell)
-    unset false = is_set_zero (bit_of l.cell)
-
 -- the literals of both
-pub added-lits : (u : Unrolling) (x other z : PlaneSet) (before after : Waiting) → IsOf u other → Wakes u x z before after → Adds u other (chunks_in u) x z → SameLits (lits u z) (λ l. lits u x l ⊎ lits u other l)
+pub added-lits : (u : Unrolling) (x other z : PlaneSet) (before after : Waiting) → IsOf u other → Wakes u x z before after → Adds u other (chunks_in u) x z
+    → SameLits (lits u z) (passing (λ l. has u x l || has u other l))
 added-lits u x other z before after of wakes adds = (
   λ l h.
       let parts : (l.cell.cycle < u.cycles) × (has_bit z (block_of u l.cell) l.bit (bit_of l.cell) ≡ true) = has-bit_of u z l h in
       elim (adds.only (block_of u l.cell) l.bit (bit_of l.cell) parts.1) [
-        | inl old ↦ inl (bit-has u x l parts.0 old)
-        | inr new ↦ inr (bit-has u other l parts.0 new)
+        | inl old ↦ or_left (has u x l) (has u other l) (bit-has u x l parts.0 old)
+        | inr new ↦ or_right (has u x l) (has u other l) (bit-has u other l parts.0 new)
       ],
-  λ l h. elim h [
+  λ l h. elim (or_cases (has u x l) (has u other l) h) [
     | inl old ↦ has-kept u x z wakes.bits l old
     | inr new ↦
         let parts : (l.cell.cycle < u.cycles) × (has_bit other (block_of u l.cell) l.bit (bit_of l.cell) ≡ true) = has-bit_of u other l new in
-        bit-has u z l parts.0 (adds.joined l.cell.sig (l.cell.cycle / 64) l.bit (bit_of l.cell) (lit-within u other l of new) (cycle-chunk u l.cell.cycle parts.0) parts.1)
+        bit-has u z l parts.0 (adds.joined l.cell.sig (l.cell.cycle / 64) l.bit (bit_of l.cell) (literals_are_of_cells u other l of new).0 (cycle-chunk u l.cell.cycle parts.0) parts.1)
   ],
 )
 
@@ -116,7 +89,7 @@ still-settled u x z before after settled wakes t is =
       | inl waits ↦ inl waits
       | inr same ↦ elim (settled t is) [
         | inl waited ↦ inl (wakes.kept t waited)
-        | inr done ↦ inr (λ l f. has-kept u x z wakes.bits l (done l (forced-on_cells u t (has u z) (has u x) (λ c bit of h. sym (same c bit of) ∙ h) l f)))
+        | inr done ↦ inr (λ l f. has-kept u x z wakes.bits l (done l (forced_by_cells u t (has u z) (has u x) (λ c bit of h. sym (same c bit of) ∙ h) l f)))
       ]
     ]
 
@@ -130,7 +103,7 @@ settled-empty u is planes before after none p t task =
   where
     from_nothing : (l : Lit) → ForcedIn u t (has u planes) l → ForcesFromNothing u t
     from_nothing l f =
-        let g : ForcedIn u t (λ _. false) l = forced-on_cells u t (has u planes) (λ _. false) (λ c bit of h. absurd (true≢false (sym h ∙ none (lit c bit)))) l f in
+        let g : ForcedIn u t (λ _. false) l = forced_by_cells u t (has u planes) (λ _. false) (λ c bit of h. absurd (true≢false (sym h ∙ none (lit c bit)))) l f in
         record { place = g.place; belongs = g.belongs; l = l; forces = g.forces }
 
 -- where the planes are closed, all tasks are done
@@ -141,21 +114,21 @@ settled-closed u planes q closed t task = inr (λ l f. closed.1 l (forced_betwee
 pub no-tasks : (u : Unrolling) (q : Waiting) → q.signals ≡ signals_in u → length q.rows ≡ chunks_in u → ((s : Sig) (c : ℕ) → Waits q s c → ⊥) → AreTasksOf u q
 no-tasks u q signals chunks none = record { signals = signals; chunks = chunks; tasks = λ s c h. absurd (none s c h) }
 
--- the words of planes have no further bit
-pub no_further-in : (u : Unrolling) (other : PlaneSet) (s : Sig) (chunk : ℕ) (w : PinWord) → IsOf u other → s.0 < signals_in u → chunk < chunks_in u → w ≡ words_at other (block_at u s chunk) → HasNoFurtherBit u chunk w
-no_further-in u other s chunk w of signal early is =
-    subst (HasNoFurtherBit u chunk) (sym is)
-    (subst (λ c. HasNoFurtherBit u c (words_at other (block_at u s chunk))) (block-chunk u s chunk early) (of.no_further (block_at u s chunk) (block-within u s chunk early signal)))
+-- the words of planes have no bit of a later cycle
+pub no_later-in : (u : Unrolling) (other : PlaneSet) (s : Sig) (chunk : ℕ) (w : PinWord) → IsOf u other → s.0 < signals_in u → chunk < chunks_in u → w ≡ words_at other (block_at u s chunk) → HasNoLaterBit u.cycles chunk w
+no_later-in u other s chunk w of signal early is =
+    subst (HasNoLaterBit u.cycles chunk) (sym is)
+    (subst (λ c. HasNoLaterBit u.cycles c (words_at other (block_at u s chunk))) (block-chunk u s chunk early) (of.no_later (block_at u s chunk) (block-within u s chunk early signal)))
 
 -- the literals of planes that had none
 pub added-to_none : (u : Unrolling) (x other z : PlaneSet) (before after : Waiting) → ((l : Lit) → has u x l ≡ false) → IsOf u other → Wakes u x z before after → Adds u other (chunks_in u) x z
     → SameLits (lits u z) (lits u other)
 added-to_none u x other z before after none of wakes adds = (
-  λ l h. elim ((added-lits u x other z before after of wakes adds).0 l h) [
+  λ l h. elim (or_cases (has u x l) (has u other l) ((added-lits u x other z before after of wakes adds).0 l h)) [
     | inl old ↦ absurd (true≢false (sym old ∙ none l))
     | inr new ↦ new
   ],
-  λ l h. (added-lits u x other z before after of wakes adds).1 l (inr h),
+  λ l h. (added-lits u x other z before after of wakes adds).1 l (or_right (has u x l) (has u other l) h),
 )
 
 -- a closure is closed
@@ -167,9 +140,9 @@ closed_again u planes base closed = (
 )
 
 -- words without the bits of cycles that are not there
-pub masked : (u : Unrolling) (chunk zero one valid : ℕ) → ((i : ℕ) → i < 64 → is_set valid i ≡ is_cycle u.cycles chunk i)
-    → HasNoFurtherBit u chunk (record { zero = bit_and zero valid; one = bit_and one valid })
-masked u chunk zero one valid valid_is true i few h =
-    sym (valid_is i few) ∙ (and_parts (is_set one i) (is_set valid i) (sym (is_set_and one valid i) ∙ h)).1
-masked u chunk zero one valid valid_is false i few h =
-    sym (valid_is i few) ∙ (and_parts (is_set zero i) (is_set valid i) (sym (is_set_and zero valid i) ∙ h)).1
+pub masked : (u : Unrolling) (chunk z o valid : ℕ) → ((i : ℕ) → i < 64 → is_set valid i ≡ is_cycle u.cycles chunk i)
+    → HasNoLaterBit u.cycles chunk (record { zero = bit_and z valid; one = bit_and o valid })
+masked u chunk z o valid valid_is true i few h =
+    sym (valid_is i few) ∙ (and_parts (is_set o i) (is_set valid i) (sym (is_set_and o valid i) ∙ h)).1
+masked u chunk z o valid valid_is false i few h =
+    sym (valid_is i few) ∙ (and_parts (is_set z i) (is_set valid i) (sym (is_set_and z valid i) ∙ h)).1

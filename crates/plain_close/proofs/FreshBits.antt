@@ -17,9 +17,9 @@ use Rattle.unroll.specs.declared.problem.Task.{Task}
 use Rattle.unroll.specs.declared.words.PinWord.{PinWord}
 use Rattle.unroll.specs.Bits.{is_set, word_for}
 use Rattle.unroll.specs.Problem.{Unrolling, signals_in, bit_of}
-use Rattle.unroll.specs.Tasks.{IsCellOf, task_at, task_of}
+use Rattle.unroll.specs.Tasks.{CellRole, IsCellOf, task_at, task_of}
 use Rattle.unroll.proofs.BlockNumbers.{one-task}
-use Rattle.unroll.proofs.TaskCells.{CellRole, role, delay-cases, later-chunk, pin-read, target-within}
+use Rattle.unroll.proofs.TaskCells.{role, delay-cases, later-chunk, pin-read, target-within}
 use Rattle.unroll.proofs.WordBits.{is_set_or, is_set_xor, differ}
 use Rattle.plain_close.specs.Turns.{before_woken, chunk_woken, own_woken, woken_from}
 

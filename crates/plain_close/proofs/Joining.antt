@@ -1,17 +1,16 @@
 -- Words that are joined into several blocks.
 use Rattle.std.proofs.Common.{ℕ, ◌≡◌, ◌<◌, ◌+◌, Bool, true, List, length, map, get_or, arith, inl, inr, sym, ap, subst, ◌∙◌}
 use Rattle.std.specs.List.{All}
-use Rattle.std.proofs.lemmas.Bool.{cases_lt, cases_Bool, true≢false}
+use Rattle.std.proofs.lemmas.Bool.{cases_lt}
 use Rattle.std.proofs.lemmas.List.{get_or-map, length-map}
 use Rattle.std.proofs.lemmas.List.Elements.{All-get_or}
 use Rattle.unroll.specs.declared.problem.Block.{Block}
 use Rattle.unroll.specs.declared.words.PinWord.{PinWord}
-use Rattle.unroll.specs.Bits.{is_cycle}
-use Rattle.unroll.specs.Problem.{Unrolling, chunk_at}
+use Rattle.unroll.specs.Problem.{Unrolling, HasNoLaterBit, HaveNoLaterBit, chunk_at}
 use Rattle.unroll.proofs.BlockNumbers.{block-chunk}
-use Rattle.gate_rules.specs.Forced.{HasNoLaterBit, bit_at_place}
+use Rattle.gate_rules.specs.Forced.{bit_at_place}
 use Rattle.gate_rules.specs.Lanes.{words_at}
-use Rattle.known_planes.specs.Planes.{PlaneSet, HasNoFurtherBit}
+use Rattle.known_planes.specs.Planes.{PlaneSet}
 use Rattle.plain_close.specs.declared.task_queues.InChunk.{InChunk}
 use Rattle.plain_close.specs.Turns.{Joins, JoinsFirst, IsInside, block_in, has_bit}
 
@@ -48,11 +47,7 @@ module _ (u : Unrolling) (places : List InChunk) (place : ℕ) (d at : InChunk) 
   pub is-inside : All (IsInside u) places → IsInside u at
   is-inside all = subst (IsInside u) (sym at_is) (All-get_or (IsInside u) places place d within all)
 
-  pub no_further-at : (out : List PinWord) → All (IsInside u) places → HasNoLaterBit u (map (block_in u) places) out → HasNoFurtherBit u at.chunk (words_at out place)
-  no_further-at out all later bit i few set =
-      elim (cases_Bool (is_cycle u.cycles at.chunk i)) [
-        | inl there ↦ there
-        | inr gone ↦
-            let chunk : chunk_at u (block_of_place (map (block_in u) places) place) ≡ at.chunk = ap (chunk_at u) block-is ∙ block-chunk u at.sig at.chunk (is-inside all).1 in
-            absurd (true≢false (sym set ∙ later place i bit (subst (λ n. place < n) (sym (length-map places (block_in u))) within) few (ap (λ c. is_cycle u.cycles c i) chunk ∙ gone)))
-      ]
+  pub no_later-at : (out : List PinWord) → All (IsInside u) places → HaveNoLaterBit u (map (block_in u) places) out → HasNoLaterBit u.cycles at.chunk (words_at out place)
+  no_later-at out all later =
+      subst (λ c. HasNoLaterBit u.cycles c (words_at out place)) (ap (chunk_at u) block-is ∙ block-chunk u at.sig at.chunk (is-inside all).1)
+      (later place (subst (λ n. place < n) (sym (length-map places (block_in u))) within))

@@ -1,8 +1,6 @@
 pub mod Adding
 pub mod Joining
 pub mod Pushing
-pub mod SameCells
-pub mod SettledOnce
 pub mod FreshBits
 pub mod TurnedTasks
 pub mod NoClash
@@ -10,7 +8,6 @@ pub mod NewLits
 pub mod Noting
 pub mod Taking
 pub mod Forcing
-pub mod LitCounts
 pub mod NextLevels
 pub mod Turning
 pub mod WaitingRows

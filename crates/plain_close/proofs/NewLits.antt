@@ -1,5 +1,5 @@
 -- Bits that a word gains, and the literals that they are.
-use Rattle.std.proofs.Common.{ℕ, ◌≡◌, ◌+◌, ◌*◌, ◌<◌, ◌≤◌, ◌^◌, ◌/◌, ◌%◌, Bool, true, false, eqb, bit_xor, arith, inl, inr, refl, sym, ap, ◌∙◌}
+use Rattle.std.proofs.Common.{ℕ, ◌≡◌, ◌<◌, ◌≤◌, ◌^◌, Bool, true, false, eqb, bit_xor, arith, inl, inr, refl, sym, ap, ◌∙◌}
 use Rattle.std.specs.Int.{bit_at, w64, trailing_zeros}
 use Rattle.std.specs.Prelude.{IsTrue}
 use Rattle.std.proofs.Math.Facts.{Fits-xor}
@@ -12,8 +12,9 @@ use Rattle.sr_model.specs.Closure.{lit}
 use Rattle.unroll.specs.declared.problem.Block.{Block}
 use Rattle.unroll.specs.declared.words.PinWord.{PinWord}
 use Rattle.unroll.specs.Bits.{is_set, word_for}
-use Rattle.unroll.specs.Problem.{Unrolling, signals_in, chunks_in, block_at, block_of, chunk_at, sig_at, bit_of, cell_of}
-use Rattle.unroll.proofs.BlockNumbers.{block-itself, block-within}
+use Rattle.unroll.specs.Problem.{Unrolling, signals_in, chunks_in, block_at, block_of, bit_of, cell_of}
+use Rattle.unroll.proofs.BlockNumbers.{block-within}
+use Rattle.unroll.proofs.BlockCells.{cell-bit}
 use Rattle.unroll.proofs.WordBits.{differ, is_set_xor, is_set_zero}
 use Rattle.known_planes.specs.Planes.{PlaneSet, IsOf, has, joined, words_at}
 use Rattle.known_planes.proofs.Clashes.{lowest-bit}
@@ -77,32 +78,25 @@ word-gains a b kept apart zero_up one_up zero_small one_small =
       ]
     ]
 
--- a bit's cell has its block and its bit
-cell-block : (u : Unrolling) (b : Block) (i : ℕ) → i < 64 → (block_of u (cell_of u b i) ≡ b) × (bit_of (cell_of u b i) ≡ i)
-cell-block u b i few = (ap (block_at u (sig_at u b)) (over (chunk_at u b)) ∙ block-itself u b, rest (chunk_at u b)) where
-  over : (c : ℕ) → (64 * c + i) / 64 ≡ c
-  over c = omega (arith, few)
-
-  rest : (c : ℕ) → (64 * c + i) % 64 ≡ i
-  rest c = omega (arith, few)
-
 -- where the words of a block gain something the planes gain a literal
 pub new-lit : (u : Unrolling) (s : Sig) (chunk : ℕ) → s.0 < signals_in u → chunk < chunks_in u → (old new : PlaneSet) → IsOf u new → (a w : PinWord)
     → a ≡ words_at old (block_at u s chunk) → joined a w ≡ words_at new (block_at u s chunk) → (joined a w ≡ a → ⊥) → (joined a w).zero < 2 ^ 64 → (joined a w).one < 2 ^ 64
-    → (l : Lit) × (has u old l ≡ false) × (has u new l ≡ true)
+    → (l : Lit) × (block_of u l.cell ≡ block_at u s chunk) × (has u old l ≡ false) × (has u new l ≡ true)
 new-lit u s chunk signal early old new of a w a_is b_is apart zero_small one_small = at-bit gained.0 gained.1 gained.2 gained.3 gained.4 where
   gained : (bit : Bool) × (i : ℕ) × (i < 64) × (is_set (word_for bit a) i ≡ false) × (is_set (word_for bit (joined a w)) i ≡ true)
   gained =
       word-gains a (joined a w) (λ bit i h. joined-bit a w bit i ∙ or_left (is_set (word_for bit a) i) (is_set (word_for bit w) i) h) apart
       (le_or_l a.zero w.zero) (le_or_l a.one w.one) zero_small one_small
 
-  at-bit : (bit : Bool) (i : ℕ) → i < 64 → is_set (word_for bit a) i ≡ false → is_set (word_for bit (joined a w)) i ≡ true → (l : Lit) × (has u old l ≡ false) × (has u new l ≡ true)
+  at-bit : (bit : Bool) (i : ℕ) → i < 64 → is_set (word_for bit a) i ≡ false → is_set (word_for bit (joined a w)) i ≡ true
+      → (l : Lit) × (block_of u l.cell ≡ block_at u s chunk) × (has u old l ≡ false) × (has u new l ≡ true)
   at-bit bit i few unset set =
       let b : Block = block_at u s chunk in
-      let place : (block_of u (cell_of u b i) ≡ b) × (bit_of (cell_of u b i) ≡ i) = cell-block u b i few in
+      let place : (block_of u (cell_of u b i) ≡ b) × (bit_of (cell_of u b i) ≡ i) = cell-bit u b i few in
       let there : has_bit new b bit i ≡ true = ap (λ x. is_set (word_for bit x) i) (sym b_is) ∙ set in
-      let in_time : (cell_of u b i).cycle < u.cycles = ltb-true (cell_of u b i).cycle u.cycles (of.no_further b (block-within u s chunk early signal) bit i few there) in (
+      let in_time : (cell_of u b i).cycle < u.cycles = ltb-true (cell_of u b i).cycle u.cycles (of.no_later b (block-within u s chunk early signal) bit i few there) in (
         lit (cell_of u b i) bit,
+        place.0,
         elim (cases_Bool (has u old (lit (cell_of u b i) bit))) [
           | inl known ↦
               absurd (true≢false (sym (has-bit_of u old (lit (cell_of u b i) bit) known).1

@@ -1,24 +1,24 @@
 -- From a level to the next one, and to the clash.
-use Rattle.std.proofs.Common.{ℕ, suc, ◌≡◌, ◌+◌, ◌<◌, ◌≤◌, ◌⊎◌, [], true, false, List, map, arith, inl, inr, sym, ap, subst, ◌∙◌}
+use Rattle.std.proofs.Common.{ℕ, suc, ◌≡◌, ◌+◌, ◌<◌, ◌≤◌, ◌⊎◌, [], ◌∷◌, true, false, List, map, arith, inl, inr, refl, sym, ap, subst, ◌∙◌}
 use Rattle.std.specs.List.{Contains}
 use Rattle.std.proofs.lemmas.Bool.{cases_lt}
 use Rattle.sr_model.specs.declared.cells.Cell.{Cell}
 use Rattle.sr_model.specs.declared.cells.Lit.{Lit}
-use Rattle.sr_model.specs.Closure.{Closure, ForcesSomewhere, IsClash, IsWithin, SameLits, IsClosed, HasBoth, level, lit}
-use Rattle.sr_model.proofs.Members.{not_in_nil}
+use Rattle.sr_model.specs.Closure.{Closure, ForcesSomewhere, IsClash, IsLeastClash, IsWithin, SameLits, IsClosed, HasBoth, level, lit}
+use Rattle.sr_model.proofs.Members.{not_in_nil, Contains-here}
 use Rattle.sr_model.proofs.ClosureLaws.{ForcesSomewhere-more, least, level-later}
 use Rattle.unroll.specs.declared.problem.Block.{Block}
 use Rattle.unroll.specs.Bits.{is_set, word_for}
 use Rattle.unroll.specs.Problem.{Unrolling, unrolled, block_of, bit_of}
-use Rattle.known_planes.specs.Clash.{IsLeastClash}
 use Rattle.known_planes.specs.Planes.{PlaneSet, IsOf, has, lits, words_at}
+use Rattle.known_planes.specs.Counts.{literal_count}
+use Rattle.known_planes.proofs.CountLaws.{more_literals_count_more, literals_are_bits}
 use Rattle.plain_close.specs.declared.task_queues.InChunk.{InChunk}
 use Rattle.plain_close.specs.declared.levels.Level.{Level}
 use Rattle.plain_close.specs.Queues.{Waiting}
 use Rattle.plain_close.specs.Turns.{IsSettled, Wakes, HaveNoClash, block_in, has_bit}
-use Rattle.plain_close.specs.Levels.{IsLevel, IsNext, IsNoted, lit_count}
-use Rattle.plain_close.proofs.LitCounts.{count-more, few-lits}
-use Rattle.plain_close.proofs.SameCells.{forced-on_cells}
+use Rattle.plain_close.specs.Levels.{IsLevel, IsNext, IsNoted}
+use Rattle.gate_rules.proofs.TaskForcing.{forced_by_cells}
 use Rattle.plain_close.proofs.Turning.{has-kept, has-bit_of, bit-has}
 
 -- The next planes have all that these force, and the blocks in which they differ were taken over.
@@ -45,7 +45,7 @@ module _ (u : Unrolling) (planes next : PlaneSet) (changed : List InChunk) (note
         elim (wakes.woken t) [
           | inl waits ↦ inl waits
           | inr unchanged ↦ inr (λ l f.
-              let g = forced-on_cells u t (has u after) (has u planes) (λ c bit of h. sym (unchanged c bit of) ∙ h) l f in
+              let g = forced_by_cells u t (has u after) (has u planes) (λ c bit of h. sym (unchanged c bit of) ∙ h) l f in
               to-after l (adds.1 l (inr (g.place, g.forces))))
         ]
 
@@ -61,19 +61,22 @@ module _ (u : Unrolling) (planes next : PlaneSet) (changed : List InChunk) (note
           | inr there ↦ no_clash (block_of u c) (bit_of c) there zero.1 one.1
         ]
 
-    pub next-more : IsOf u after → (changed ≡ [] → ⊥) → lit_count u planes < lit_count u after
+    pub next-more : IsOf u after → (changed ≡ [] → ⊥) → literal_count u planes < literal_count u after
     next-more of some =
-        elim noted.more [
-          | inl none ↦ absurd (some none)
-          | inr found ↦ count-more u planes after of (λ l h. to-after l (has-kept u planes next noted.kept l h)) found.0 found.1 (to-after found.0 found.2)
-        ]
+        let block : (b : Block) × Contains (map (block_in u) changed) b = one-block changed some in
+        let found = noted.more block.0 block.1 in
+        more_literals_count_more u planes after found.0 of (λ l h. to-after l (has-kept u planes next noted.kept l h)) found.2 (to-after found.0 found.3)
+      where
+        one-block : (places : List InChunk) → (places ≡ [] → ⊥) → (b : Block) × Contains (map (block_in u) places) b
+        one-block [] apart = absurd (apart refl)
+        one-block (at ∷ places) apart = (block_in u at, Contains-here (block_in u at) (map (block_in u) places))
 
 -- The planes have the literals of the level with this number, and no cell has both at a level before. So far there are at least so many literals.
 pub record LevelAt (u : Unrolling) (base : PlaneSet) (number : ℕ) (at : Level) : Type 0 where
   pub is_level : IsLevel u at
   pub literals : SameLits (lits u at.planes) (level (unrolled u) (lits u base) number)
   pub none_before : (j : ℕ) (c : Cell) → j < number → HasBoth (level (unrolled u) (lits u base) j) c → ⊥
-  pub count : number ≤ lit_count u at.planes
+  pub count : number ≤ literal_count u at.planes
 
 module _ (u : Unrolling) (base : PlaneSet) (number : ℕ) (at : Level) (is : LevelAt u base number at) where
   both-here : (c : Cell) → HasBoth (level (unrolled u) (lits u base) number) c → HasBoth (lits u at.planes) c
@@ -81,9 +84,11 @@ module _ (u : Unrolling) (base : PlaneSet) (number : ℕ) (at : Level) (is : Lev
 
   pub clash-here : (c : Cell) → IsLeastClash (lits u at.planes) c → IsClash (unrolled u) (lits u base) c number
   clash-here c clash = record {
-    both = (is.literals.0 (lit c false) clash.both.0, is.literals.0 (lit c true) clash.both.1);
     first_level = λ j d both. elim (cases_lt j number) [ inl below ↦ absurd (is.none_before j d below both) | inr above ↦ above ];
-    least_cell = λ d both. clash.least d (both-here d both);
+    least_cell = record {
+      both = (is.literals.0 (lit c false) clash.both.0, is.literals.0 (lit c true) clash.both.1);
+      least = λ d both. clash.least d (both-here d both);
+    };
   }
 
   -- where the level is closed it is the closure
@@ -126,4 +131,4 @@ module _ (u : Unrolling) (base : PlaneSet) (number : ℕ) (at : Level) (is : Lev
 
     -- there are not so many levels
     pub few-levels : number < 536870912
-    few-levels = omega (arith, is.count, after.more, few-lits u next.planes is.is_level.problem)
+    few-levels = omega (arith, is.count, after.more, literals_are_bits u next.planes after.is_level.of, is.is_level.problem.few_blocks)

@@ -8,7 +8,6 @@ use Rattle.std.proofs.lemmas.List.{take_more, take_all, map-append}
 use Rattle.std.proofs.lemmas.List.Elements.{Contains-push_cases}
 use Rattle.sr_model.specs.declared.cells.Cell.{Cell}
 use Rattle.sr_model.specs.Closure.{HasBoth}
-use Rattle.sr_model.proofs.Members.{not_in_nil}
 use Rattle.unroll.specs.declared.words.PinWord.{PinWord}
 use Rattle.unroll.specs.Bits.{is_set}
 use Rattle.unroll.specs.Problem.{Unrolling}
@@ -23,9 +22,6 @@ use Rattle.plain_close.specs.Turns.{HaveNoClash, IsInside, block_in}
 no-common : (w : PinWord) (i : ℕ) → bit_and w.zero w.one ≡ 0 → is_set w.zero i ≡ true → is_set w.one i ≡ true → ⊥
 no-common w i none zero_set one_set =
     true≢false (sym (and_from (is_set w.zero i) (is_set w.one i) zero_set one_set) ∙ sym (is_set_and w.zero w.one i) ∙ ap (λ n. is_set n i) none ∙ is_set_zero i)
-
-pub no_clash-none : (planes : PlaneSet) → HaveNoClash planes []
-no_clash-none planes b i h = absurd (not_in_nil b h)
 
 module _ (u : Unrolling) (planes : PlaneSet) (places : List InChunk) where
   pub no_clash-more : (i : ℕ) (d : InChunk) (w : PinWord) → i < length places → w ≡ words_at planes (block_in u (get_or places i d)) → bit_and w.zero w.one ≡ 0

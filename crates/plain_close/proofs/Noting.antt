@@ -1,13 +1,16 @@
 -- Planes that grow out of others, with the blocks noted that change.
-use Rattle.std.proofs.Common.{ℕ, ◌≡◌, ◌++◌, ◌∷◌, [], Bool, true, false, List, map, inl, inr, refl, sym, ap, subst, ◌∙◌}
-use Rattle.std.specs.List.{All, Contains}
-use Rattle.std.proofs.lemmas.Bool.{cases_eq}
+use Rattle.std.proofs.Common.{ℕ, ◌≡◌, ◌≢◌, ◌&&◌, ◌++◌, ◌∷◌, [], Bool, true, false, List, map, inl, inr, refl, sym, ap, subst, ◌∙◌}
+use Rattle.std.specs.List.{All, AllPairs, Contains}
+use Rattle.std.specs.Prelude.{nat_lt}
+use Rattle.std.proofs.lemmas.Bool.{cases_eq, true≢false}
 use Rattle.std.proofs.lemmas.List.{map-append}
-use Rattle.std.proofs.lemmas.List.Elements.{All-append, All-cons, All-nil, Contains-append_left, Contains-append_right}
+use Rattle.std.proofs.lemmas.List.Elements.{All-append, All-cons, All-nil, Contains-append_left, Contains-append_right, Contains-push_cases, Contains-get_or}
+use Rattle.std.proofs.lemmas.List.Quantifiers.{all_pairs_push}
 use Rattle.sr_model.specs.declared.cells.Lit.{Lit}
-use Rattle.sr_model.proofs.Members.{not_in_nil, Contains-here}
+use Rattle.sr_model.proofs.Members.{Contains-here}
 use Rattle.unroll.specs.declared.problem.Block.{Block}
-use Rattle.unroll.specs.Problem.{Unrolling}
+use Rattle.unroll.specs.Bits.{is_set, word_for}
+use Rattle.unroll.specs.Problem.{Unrolling, block_of, bit_of}
 use Rattle.known_planes.specs.Planes.{PlaneSet, IsOf, has, words_at}
 use Rattle.plain_close.specs.declared.task_queues.InChunk.{InChunk}
 use Rattle.plain_close.specs.Turns.{IsInside, block_in, has_bit}
@@ -18,8 +21,9 @@ module _ (u : Unrolling) (planes old new : PlaneSet) (changed : List InChunk) (a
     (bits : (b : Block) (bit : Bool) (i : ℕ) → has_bit old b bit i ≡ true → has_bit new b bit i ≡ true) (elsewhere : (b : Block) → (b.0 ≡ (block_in u at).0 → ⊥) → words_at new b ≡ words_at old b) where
   -- a block has changed, and is among the noted ones
   noted-with : (all : List InChunk) → All (IsInside u) all → ((b : Block) → Contains (map (block_in u) changed) b → Contains (map (block_in u) all) b) → Contains (map (block_in u) all) (block_in u at)
-      → (l : Lit) × (has u planes l ≡ false) × (has u new l ≡ true) → IsNoted u planes new all
-  noted-with all inside still here found = record {
+      → ((b : Block) → Contains (map (block_in u) all) b → (l : Lit) × (block_of u l.cell ≡ b) × (has u planes l ≡ false) × (has u new l ≡ true)) → AllPairs (λ a b. a ≢ b) (map (block_in u) all)
+      → IsNoted u planes new all
+  noted-with all inside still here more once = record {
     of = of;
     kept = λ b bit i h. bits b bit i (before.kept b bit i h);
     inside = inside;
@@ -30,19 +34,37 @@ module _ (u : Unrolling) (planes old new : PlaneSet) (changed : List InChunk) (a
         | inr there ↦ inr (still b there)
       ]
     ];
-    more = inr found;
+    more = more;
+    once = once;
   }
 
+  -- the blocks noted before have a literal more still
+  more-still : (b : Block) → Contains (map (block_in u) changed) b → (l : Lit) × (block_of u l.cell ≡ b) × (has u planes l ≡ false) × (has u new l ≡ true)
+  more-still b h = let found = before.more b h in (found.0, found.1, found.2, has-kept u old new bits found.0 found.3)
+
+  -- a block whose words are those of the others is not noted
+  not-noted : (b : Block) → words_at old b ≡ words_at planes b → Contains (map (block_in u) changed) b → ⊥
+  not-noted b same h =
+      let found = before.more b h in
+      let words : words_at old (block_of u found.0.cell) ≡ words_at planes (block_of u found.0.cell) = ap (words_at old) found.1 ∙ same ∙ sym (ap (words_at planes) found.1) in
+      true≢false (sym found.3 ∙ ap (λ w. nat_lt found.0.cell.cycle u.cycles && is_set (word_for found.0.bit w) (bit_of found.0.cell)) words ∙ found.2)
+
   -- for the first time
-  pub noted-first : (all : List InChunk) → all ≡ changed ++ at ∷ [] → IsInside u at → (l : Lit) × (has u old l ≡ false) × (has u new l ≡ true) → words_at old (block_in u at) ≡ words_at planes (block_in u at)
-      → IsNoted u planes new all
+  pub noted-first : (all : List InChunk) → all ≡ changed ++ at ∷ [] → IsInside u at → (l : Lit) × (block_of u l.cell ≡ block_in u at) × (has u old l ≡ false) × (has u new l ≡ true)
+      → words_at old (block_in u at) ≡ words_at planes (block_in u at) → IsNoted u planes new all
   noted-first all is inside found same =
       let both : map (block_in u) all ≡ map (block_in u) changed ++ block_in u at ∷ [] = ap (map (block_in u)) is ∙ map-append (block_in u) changed (at ∷ []) in
       noted-with all
       (subst (All (IsInside u)) (sym is) (All-append (IsInside u) changed (at ∷ []) before.inside (All-cons (IsInside u) at [] inside (All-nil (IsInside u)))))
       (λ b h. subst (λ bs. Contains bs b) (sym both) (Contains-append_left (map (block_in u) changed) (block_in u at ∷ []) b h))
       (subst (λ bs. Contains bs (block_in u at)) (sym both) (Contains-append_right (map (block_in u) changed) (block_in u at ∷ []) (block_in u at) (Contains-here (block_in u at) [])))
-      (found.0, missing found.0 found.1, found.2)
+      (λ b h. elim (Contains-push_cases (map (block_in u) changed) (block_in u at) b (subst (λ bs. Contains bs b) both h)) [
+        | inl earlier ↦ more-still b earlier
+        | inr e ↦ (found.0, found.1 ∙ e, missing found.0 found.2, found.3)
+      ])
+      (subst (AllPairs (λ a b. a ≢ b)) (sym both)
+      (all_pairs_push (λ a b. a ≢ b) (map (block_in u) changed) (block_in u at) before.once
+      (λ k d h e. not-noted (block_in u at) same (subst (Contains (map (block_in u) changed)) e (Contains-get_or (map (block_in u) changed) k d h)))))
     where
       lost : (a b : Bool) → (a ≡ true → b ≡ true) → b ≡ false → a ≡ false
       lost true b up none = sym (up refl) ∙ none
@@ -54,12 +76,9 @@ module _ (u : Unrolling) (planes old new : PlaneSet) (changed : List InChunk) (a
   -- and once more
   pub noted-again : (words_at old (block_in u at) ≡ words_at planes (block_in u at) → ⊥) → IsNoted u planes new changed
   noted-again differ =
-      let here : Contains (map (block_in u) changed) (block_in u at) = elim (before.noted (block_in u at)) [
+      noted-with changed before.inside (λ b h. h)
+      (elim (before.noted (block_in u at)) [
         | inl same ↦ absurd (differ same)
         | inr there ↦ there
-      ] in
-      noted-with changed before.inside (λ b h. h) here
-      (elim before.more [
-        | inl none ↦ absurd (not_in_nil (block_in u at) (subst (λ xs. Contains (map (block_in u) xs) (block_in u at)) none here))
-        | inr found ↦ (found.0, found.1, has-kept u old new bits found.0 found.2)
       ])
+      more-still before.once

@@ -1,16 +1,16 @@
 -- Tasks that wait, task after task.
-use Rattle.std.proofs.Common.{ℕ, ◌≡◌, ◌<◌, ◌≤◌, ◌⊎◌, ◌+◌, true, not, eqb, Some, None, List, [], ◌∷◌, ◌++◌, length, map, get_or, take, inl, inr, refl, sym, ap, subst, ◌∙◌}
+use Rattle.std.proofs.Common.{ℕ, ◌≡◌, ◌<◌, ◌≤◌, ◌⊎◌, ◌+◌, true, not, eqb, Some, List, [], ◌∷◌, ◌++◌, length, map, get_or, take, inl, inr, refl, sym, ap, subst, ◌∙◌}
 use Rattle.std.specs.List.{Contains}
 use Rattle.std.proofs.lemmas.List.{take_more, take_all, append_assoc, map-append}
 use Rattle.std.proofs.lemmas.List.Elements.{Contains-append_cases, Contains-get_or}
 use Rattle.sr_model.specs.declared.cells.Sig.{Sig}
 use Rattle.sr_model.specs.declared.gates.Kind.{Kind}
-use Rattle.sr_model.specs.declared.gates.Kind.TheVariants.{And, Nand, Or, Nor, Xor, Xnor, Not, Buf, Dff}
+use Rattle.sr_model.specs.declared.gates.Kind.TheVariants.{Dff}
 use Rattle.sr_model.specs.Netlist.{Driver, Input, Driven}
 use Rattle.sr_model.proofs.Members.{not_in_nil, Contains-cases, filter-member, filter-passes}
 use Rattle.netlist.specs.Wiring.{driver_at, kind_of, is_flip_flop, is_driven, reads, other_readers, signals_below, readers}
 use Rattle.unroll.specs.declared.problem.Task.{Task}
-use Rattle.unroll.specs.Problem.{Unrolling, IsProblem, signals_in, chunks_in}
+use Rattle.unroll.specs.Problem.{Unrolling, IsProblem, chunks_in}
 use Rattle.unroll.specs.Tasks.{IsTask, task_at, target_of, target_block, chunk_of, constant_tasks}
 use Rattle.unroll.proofs.BlockNumbers.{block-sig, block-chunk, sig-within, chunk-within, some_chunk, task-itself}
 use Rattle.unroll.proofs.AdjacentTasks.{reader-within}
@@ -66,24 +66,7 @@ pushed-then u xs ys a b c first second = record {
 pub pushed-same : (u : Unrolling) (xs ys : List Task) (a b : Waiting) → xs ≡ ys → Pushed u xs a b → Pushed u ys a b
 pushed-same u xs ys a b e p = subst (λ zs. Pushed u zs a b) e p
 
--- the tasks of a signal itself that fresh bits are in: none of an input, and one of a gate
-pub own-none : (u : Unrolling) (d : Driver) (s : Sig) (chunk fresh : ℕ) → kind_of d ≡ None → own_woken u d s chunk fresh ≡ []
-own-none u Input s chunk fresh e = refl
-own-none u (Driven kind pins) s chunk fresh e = cc
-
-pub own-gate : (u : Unrolling) (d : Driver) (kind : Kind) (s : Sig) (chunk fresh : ℕ) → kind_of d ≡ Some kind → (kind ≡ Dff → ⊥) → own_woken u d s chunk fresh ≡ task_at u s chunk ∷ []
-own-gate u Input kind s chunk fresh e gate = cc
-own-gate u (Driven Dff pins) kind s chunk fresh e gate = absurd (gate (sym (some-kind Dff kind e)))
-own-gate u (Driven And pins) kind s chunk fresh e gate = refl
-own-gate u (Driven Nand pins) kind s chunk fresh e gate = refl
-own-gate u (Driven Or pins) kind s chunk fresh e gate = refl
-own-gate u (Driven Nor pins) kind s chunk fresh e gate = refl
-own-gate u (Driven Xor pins) kind s chunk fresh e gate = refl
-own-gate u (Driven Xnor pins) kind s chunk fresh e gate = refl
-own-gate u (Driven Not pins) kind s chunk fresh e gate = refl
-own-gate u (Driven Buf pins) kind s chunk fresh e gate = refl
-
--- and those of a flip-flop
+-- the tasks of a flip-flop itself that fresh bits are in
 pub own-flip_flop : (u : Unrolling) (d : Driver) (s : Sig) (chunk fresh : ℕ) → kind_of d ≡ Some Dff → own_woken u d s chunk fresh ≡ before_woken u s chunk fresh ++ chunk_woken u d s chunk fresh
 own-flip_flop u Input s chunk fresh e = cc
 own-flip_flop u (Driven kind pins) s chunk fresh e =
@@ -92,14 +75,6 @@ own-flip_flop u (Driven kind pins) s chunk fresh e =
 pub is-flip_flop : (d : Driver) → kind_of d ≡ Some Dff → is_flip_flop d ≡ true
 is-flip_flop Input e = cc
 is-flip_flop (Driven kind pins) e = ap (λ k. is_flip_flop (Driven k pins)) (some-kind kind Dff e)
-
--- the task of a driven signal in a chunk
-pub own-is : (u : Unrolling) (s : Sig) (chunk : ℕ) (kind : Kind) → s.0 < signals_in u → chunk < chunks_in u → kind_of (driver_at u.circuit.drivers s.0) ≡ Some kind → IsTaskAt u s chunk
-own-is u s chunk kind signal early e = record { signal = signal; early = early; driven = driven (driver_at u.circuit.drivers s.0) e }
-  where
-    driven : (d : Driver) → kind_of d ≡ Some kind → is_driven d ≡ true
-    driven Input e = cc
-    driven (Driven k pins) e = refl
 
 -- each reader's task in the chunk is one
 pub reader-is : (u : Unrolling) (s : Sig) (chunk : ℕ) (rs : List Sig) → rs ≡ other_readers u.circuit.drivers s → chunk < chunks_in u → (i : ℕ) (d : Sig) → i < length rs → IsTaskAt u (get_or rs i d) chunk

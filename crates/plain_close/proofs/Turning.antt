@@ -1,5 +1,5 @@
 -- The turn of a task, and turns one after another.
-use Rattle.std.proofs.Common.{ℕ, ◌≡◌, ◌<◌, ◌≤◌, ◌+◌, ◌*◌, ◌/◌, ◌%◌, ◌⊎◌, ◌&&◌, Bool, true, false, eqb, ltb, List, [], ◌∷◌, length, map, get_or, arith, inl, inr, refl, sym, ap, subst, ◌∙◌}
+use Rattle.std.proofs.Common.{ℕ, ◌≡◌, ◌<◌, ◌≤◌, ◌⊎◌, ◌&&◌, Bool, true, false, eqb, ltb, List, [], ◌∷◌, length, map, get_or, arith, inl, inr, refl, sym, ap, subst, ◌∙◌}
 use Rattle.std.specs.List.{Contains}
 use Rattle.std.proofs.lemmas.Bool.{cases_eq, cond-true, cond-false, eq-eqb, ne_eqb, and_parts, and_from, lt-ltb, ltb-true, true≢false}
 use Rattle.std.proofs.lemmas.List.{get_or_default, length-map}
@@ -13,18 +13,19 @@ use Rattle.unroll.specs.declared.problem.Block.{Block}
 use Rattle.unroll.specs.declared.problem.Task.{Task}
 use Rattle.unroll.specs.declared.words.PinWord.{PinWord}
 use Rattle.unroll.specs.Bits.{is_set, word_for}
-use Rattle.unroll.specs.Problem.{Unrolling, unrolled, IsProblem, chunks_in, sig_at, chunk_at, block_of, bit_of, cell_of}
-use Rattle.unroll.specs.Tasks.{IsTask, IsCellOf, task_of, task_at, target_of, chunk_of, blocks_of, blocks_from}
-use Rattle.unroll.proofs.BlockNumbers.{block-sig, block-chunk, cycle-chunk, task-itself}
+use Rattle.unroll.specs.Problem.{Unrolling, unrolled, IsProblem, chunks_in, block_of, bit_of, cell_of}
+use Rattle.unroll.specs.Tasks.{IsTask, IsCellOf, task_at, target_of, chunk_of, blocks_of, blocks_from}
+use Rattle.unroll.proofs.BlockNumbers.{task-itself}
+use Rattle.unroll.proofs.BlockCells.{cell-itself, bit-small, blocks-at}
 use Rattle.unroll.proofs.WordBits.{is_set_zero}
-use Rattle.unroll.proofs.TaskCells.{have_its_cells, each_in_one_task}
-use Rattle.gate_rules.specs.Forced.{ForcedIn, IsForcedExactly, bit_at_place, lit_at_place, view_has, words_of}
+use Rattle.unroll.proofs.TaskCells.{have_its_cells}
+use Rattle.gate_rules.specs.Forced.{ForcedIn, IsDone, IsForcedExactly, bit_at_place, lit_at_place, view_has, words_of}
 use Rattle.gate_rules.proofs.NewLiterals.{forced-in_time}
 use Rattle.known_planes.specs.Planes.{PlaneSet, has, lits, words_at, no_bits, IsOf}
 use Rattle.plain_close.specs.declared.task_queues.InChunk.{InChunk}
 use Rattle.plain_close.specs.Queues.{Waiting, Waits, IsFirst}
-use Rattle.plain_close.specs.Turns.{IsTaskAt, AreTasksOf, TaskWaits, IsDone, IsSettled, Wakes, JoinsFirst, AddsForced, AreForced, Turns, Between, block_in, has_bit, missing_of}
-use Rattle.plain_close.proofs.SameCells.{forced-on_cells}
+use Rattle.plain_close.specs.Turns.{IsTaskAt, AreTasksOf, TaskWaits, IsSettled, Wakes, JoinsFirst, AddsForced, AreForced, Turns, Between, block_in, has_bit, missing_of}
+use Rattle.gate_rules.proofs.TaskForcing.{closed_where_done, forced_by_cells}
 
 -- what the words beside the blocks are, where each is that of its block
 pub words-listed : (blocks : List Block) (f : Block → PinWord) (b : Block) → Contains blocks b → words_of blocks (map f blocks) b ≡ f b
@@ -50,17 +51,6 @@ words-or-none (c ∷ blocks) f b =
         | inr e ↦ inr (cond-false (eqb c.0 b.0) (f c) (words_of blocks (map f blocks) b) (ne_eqb c.0 b.0 other) ∙ e)
       ]
     ]
-
--- a cell is that of its bit in its block
-pub cell-itself : (u : Unrolling) (c : Cell) → c.cycle < u.cycles → cell_of u (block_of u c) (bit_of c) ≡ c
-cell-itself u c early =
-    let chunk : chunk_at u (block_of u c) ≡ c.cycle / 64 = block-chunk u c.sig (c.cycle / 64) (cycle-chunk u c.cycle early) in
-    let sig : sig_at u (block_of u c) ≡ c.sig = block-sig u c.sig (c.cycle / 64) (cycle-chunk u c.cycle early) in
-    ap (λ n. record { cycle = 64 * n + c.cycle % 64; sig = sig_at u (block_of u c) }) chunk ∙ ap (λ n. record { cycle = n; sig = sig_at u (block_of u c) }) (whole c.cycle)
-    ∙ ap (λ s. record { cycle = c.cycle; sig = s }) sig
-  where
-    whole : (n : ℕ) → 64 * (n / 64) + n % 64 ≡ n
-    whole n = omega arith
 
 -- a literal of planes is a bit of its block
 pub has-bit_of : (u : Unrolling) (planes : PlaneSet) (l : Lit) → has u planes l ≡ true → (l.cell.cycle < u.cycles) × (has_bit planes (block_of u l.cell) l.bit (bit_of l.cell) ≡ true)
@@ -111,30 +101,24 @@ module _ (u : Unrolling) (is : IsProblem u) (t : Task) (seen old new : PlaneSet)
   at-place l place early e =
       ap (λ b. lit (cell_of u b (bit_of l.cell)) l.bit) e ∙ ap (λ c. lit c l.bit) (cell-itself u l.cell early)
 
-  lane : (l : Lit) → bit_of l.cell < 64
-  lane l = below l.cell.cycle
-    where
-      below : (n : ℕ) → n % 64 < 64
-      below n = omega arith
-
   pub adds-forced : AddsForced u t seen old new
   adds-forced = record {
     done = λ l f.
         let early : l.cell.cycle < u.cycles = forced-in_time u t (has u seen) l f in
-        let seen : ForcedIn u t (view_has u blocks view) l = forced-on_cells u t (has u seen) (view_has u blocks view) in-view l f in
+        let seen : ForcedIn u t (view_has u blocks view) l = forced_by_cells u t (has u seen) (view_has u blocks view) in-view l f in
         let of : IsCellOf u t l.cell = record { place = f.place; belongs = f.belongs; instance = f.forces.instance; stands = f.forces.stands; has_cell = f.forces.forces.on_cells } in
         let there : Contains blocks (block_of u l.cell) = listed l.cell of in
         let at : get_or blocks there.0 (record { 0 = 0 }) ≡ block_of u l.cell = get_or_default blocks there.0 (record { 0 = 0 }) (block_of u l.cell) there.1 ∙ there.2 in
         let set : bit_at_place out there.0 l.bit (bit_of l.cell) ≡ true =
-        (exact there.0 (bit_of l.cell) l.bit there.1 (lane l)).1 (subst (ForcedIn u t (view_has u blocks view)) (sym (at-place l there.0 early at)) seen) in
+        (exact there.0 (bit_of l.cell) l.bit there.1 (bit-small l.cell)).1 (subst (ForcedIn u t (view_has u blocks view)) (sym (at-place l there.0 early at)) seen) in
         bit-has u new l early (joins.joined (block_of u l.cell) l.bit (bit_of l.cell) (record { place = there.0; first = there.1; block = at; set = set }));
     only = λ l h.
         let parts : (l.cell.cycle < u.cycles) × (has_bit new (block_of u l.cell) l.bit (bit_of l.cell) ≡ true) = has-bit_of u new l h in
         elim (joins.only (block_of u l.cell) l.bit (bit_of l.cell) parts.1) [
           | inl before ↦ inl (bit-has u old l parts.0 before)
-          | inr among ↦ inr (forced-on_cells u t (view_has u blocks view) (has u seen) (λ c bit of. from-view (lit c bit)) l
+          | inr among ↦ inr (forced_by_cells u t (view_has u blocks view) (has u seen) (λ c bit of. from-view (lit c bit)) l
               (subst (ForcedIn u t (view_has u blocks view)) (at-place l among.place parts.0 among.block)
-              ((exact among.place (bit_of l.cell) l.bit among.first (lane l)).0 among.set)))
+              ((exact among.place (bit_of l.cell) l.bit among.first (bit-small l.cell)).0 among.set)))
         ];
   }
 
@@ -178,7 +162,7 @@ between-turn u x y z q after left t before wakes no_more turn are waits_on = rec
           | inl waits ↦ waits_on r waits
           | inr same ↦ elim (before.settled r is) [
             | inl waited ↦ waits_on r (wakes.kept r waited)
-            | inr was_done ↦ inr (λ l f. has-kept u y z wakes.bits l (was_done l (forced-on_cells u r (has u z) (has u y) (λ c bit of h. sym (same c bit of) ∙ h) l f)))
+            | inr was_done ↦ inr (λ l f. has-kept u y z wakes.bits l (was_done l (forced_by_cells u r (has u z) (has u y) (λ c bit of h. sym (same c bit of) ∙ h) l f)))
           ]
         ]
 
@@ -207,25 +191,19 @@ between-then u x y z q r first second = record {
 
 -- where no task waits, nothing more is forced
 pub all-done : (u : Unrolling) (planes : PlaneSet) (q : Waiting) → IsSettled u planes q → ((s : Sig) (c : ℕ) → Waits q s c → ⊥) → IsClosed (unrolled u) (lits u planes)
-all-done u planes q settled none l (p, f) =
-    let one = each_in_one_task u p f.instance f.stands in
-    elim (settled (task_of u p) one.0) [
-      | inl waits ↦ absurd (none (target_of u (task_of u p)) (chunk_of u (task_of u p)) waits)
-      | inr done ↦ done l (record { place = p; belongs = one.1; forces = f })
-    ]
+all-done u planes q settled none =
+    (closed_where_done u (has u planes)).1 (λ t is. elim (settled t is) [
+      | inl waits ↦ absurd (none (target_of u t) (chunk_of u t) waits)
+      | inr done ↦ done
+    ])
 
 pub closure-is : (u : Unrolling) (x y : PlaneSet) (q : Waiting) → Between u x y q → IsClosed (unrolled u) (lits u y) → SameLits (lits u y) (Closure (unrolled u) (lits u x))
 closure-is u x y q between closed = closed_between (unrolled u) (lits u x) (lits u y) between.kept between.in_closure closed
-
--- the blocks of a task by its signal and chunk
-pub blocks-at : (u : Unrolling) (s : Sig) (chunk : ℕ) → chunk < chunks_in u → blocks_from u s chunk ≡ blocks_of u (task_at u s chunk)
-blocks-at u s chunk early =
-    sym (ap (λ x. blocks_from u x (chunk_of u (task_at u s chunk))) (block-sig u s chunk early) ∙ ap (blocks_from u s) (block-chunk u s chunk early))
 
 -- what was forced is added, where its words are joined into the blocks
 pub forced-added : (u : Unrolling) (s : Sig) (chunk : ℕ) → chunk < chunks_in u → (seen old new : PlaneSet) (places : List InChunk) (view out : List PinWord)
     → AreForced u seen s chunk places view out → JoinsFirst (map (block_in u) places) out (length places) old new → AddsForced u (task_at u s chunk) seen old new
 forced-added u s chunk early seen old new places view out are joins =
     let size : length places ≡ length (blocks_from u s chunk) = sym (length-map places (block_in u)) ∙ ap length are.places_are in
-    adds-forced u are.problem (task_at u s chunk) seen old new (blocks_from u s chunk) view out (blocks-at u s chunk early) are.view_is are.exact
+    adds-forced u are.problem (task_at u s chunk) seen old new (blocks_from u s chunk) view out (sym (blocks-at u s chunk early)) are.view_is are.exact
     (subst (λ n. JoinsFirst (blocks_from u s chunk) out n old new) size (subst (λ bs. JoinsFirst bs out (length places) old new) are.places_are joins))

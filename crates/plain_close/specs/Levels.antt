@@ -1,23 +1,25 @@
 -- Levels as planes: the tasks that may force more from one, and what the next one has.
-use Rattle.std.specs.Prelude.{ℕ, ◌≡◌, ◌<◌, ◌≤◌, ◌⊎◌, ◌+◌, ◌*◌, ◌/◌, ◌%◌, [], Bool, true, false, IsFalse, List, map}
-use Rattle.std.specs.List.{All, Contains, count_by, range_with_len}
+use Rattle.std.specs.Prelude.{ℕ, ◌≡◌, ◌≢◌, ◌<◌, ◌≤◌, ◌⊎◌, Bool, true, IsTrue, IsFalse, List, map}
+use Rattle.std.specs.List.{All, AllPairs, Contains}
 use Rattle.sr_model.specs.declared.cells.Cell.{Cell}
 use Rattle.sr_model.specs.declared.cells.Lit.{Lit}
-use Rattle.sr_model.specs.Closure.{ForcesSomewhere, HasBoth, SameLits, lit}
+use Rattle.sr_model.specs.Closure.{ForcesSomewhere, HasBoth, SameLits}
 use Rattle.unroll.specs.declared.problem.Block.{Block}
-use Rattle.unroll.specs.Problem.{Unrolling, IsProblem, unrolled, signals_in}
+use Rattle.unroll.specs.Problem.{Unrolling, IsProblem, unrolled, block_of}
 use Rattle.known_planes.specs.Planes.{PlaneSet, IsOf, has, lits, words_at}
+use Rattle.known_planes.specs.Counts.{literal_count}
 use Rattle.plain_close.specs.declared.task_queues.InChunk.{InChunk}
 use Rattle.plain_close.specs.declared.levels.Level.{Level}
 use Rattle.plain_close.specs.Turns.{AreTasksOf, IsSettled, IsInside, block_in, has_bit}
 
--- The next planes have what the others have. Where their words differ the block is noted, and where one is noted they have a literal more.
+-- The next planes have what the others have. Each block in which their words differ is noted, once, and in each block that is noted they have a literal more.
 pub record IsNoted (u : Unrolling) (planes next : PlaneSet) (changed : List InChunk) : Type 0 where
   pub of : IsOf u next
   pub kept : (b : Block) (bit : Bool) (i : ℕ) → has_bit planes b bit i ≡ true → has_bit next b bit i ≡ true
   pub inside : All (IsInside u) changed
   pub noted : (b : Block) → (words_at next b ≡ words_at planes b) ⊎ Contains (map (block_in u) changed) b
-  pub more : (changed ≡ []) ⊎ ((l : Lit) × (has u planes l ≡ false) × (has u next l ≡ true))
+  pub more : (b : Block) → Contains (map (block_in u) changed) b → (l : Lit) × (block_of u l.cell ≡ b) × IsFalse (has u planes l) × IsTrue (has u next l)
+  pub once : AllPairs (λ a b. a ≢ b) (map (block_in u) changed)
 
 -- a level of a problem: each task waits or is done, and the next planes are equal to its own
 pub record IsLevel (u : Unrolling) (at : Level) : Type 0 where
@@ -30,20 +32,8 @@ pub record IsLevel (u : Unrolling) (at : Level) : Type 0 where
   pub no_clash : IsFalse at.may_clash → (c : Cell) → HasBoth (lits u at.planes) c → ⊥
   pub room : 1025 ≤ at.buffers.blocks.room
 
--- the cell with this number, by cycle and then by signal
-abbrev pub cell_numbered : Unrolling → ℕ → Cell
-cell_numbered u n = record { cycle = n / signals_in u; sig = record { 0 = n % signals_in u } }
-
--- how many cells have the literal of a bit
-abbrev pub cells_with : Unrolling → PlaneSet → Bool → ℕ
-cells_with u planes bit = count_by (λ n. has u planes (lit (cell_numbered u n) bit)) (range_with_len 0 (u.cycles * signals_in u))
-
--- how many literals there are
-abbrev pub lit_count : Unrolling → PlaneSet → ℕ
-lit_count u planes = cells_with u planes false + cells_with u planes true
-
 -- the next level: all that this one forces, and that is at least one literal more
 pub record IsNext (u : Unrolling) (this next : Level) : Type 0 where
   pub is_level : IsLevel u next
   pub adds : SameLits (lits u next.planes) (λ l. lits u this.planes l ⊎ ForcesSomewhere (unrolled u) (lits u this.planes) l)
-  pub more : lit_count u this.planes < lit_count u next.planes
+  pub more : literal_count u this.planes < literal_count u next.planes

@@ -7,14 +7,14 @@ use Rattle.sr_model.specs.declared.cells.Cell.{Cell}
 use Rattle.sr_model.specs.declared.cells.Lit.{Lit}
 use Rattle.sr_model.specs.Closure.{Closure, IsWithin, lit}
 use Rattle.sr_model.specs.Netlist.{Driver, Input, Driven}
-use Rattle.netlist.specs.Wiring.{driver_at, is_driven, is_flip_flop, reads, other_readers}
+use Rattle.netlist.specs.Wiring.{driver_at, is_driven, reads, other_readers}
 use Rattle.unroll.specs.declared.problem.Block.{Block}
 use Rattle.unroll.specs.declared.problem.Task.{Task}
 use Rattle.unroll.specs.declared.words.PinWord.{PinWord}
 use Rattle.unroll.specs.Bits.{is_set, word_for}
-use Rattle.unroll.specs.Problem.{Unrolling, IsProblem, unrolled, signals_in, chunks_in, block_at}
+use Rattle.unroll.specs.Problem.{Unrolling, IsProblem, HaveNoLaterBit, unrolled, signals_in, chunks_in, block_at}
 use Rattle.unroll.specs.Tasks.{IsTask, IsCellOf, task_at, target_of, chunk_of, blocks_from}
-use Rattle.gate_rules.specs.Forced.{ForcedIn, HasNoLaterBit, IsForcedExactly, bit_at_place}
+use Rattle.gate_rules.specs.Forced.{ForcedIn, IsDone, IsForcedExactly, bit_at_place}
 use Rattle.known_planes.specs.Planes.{PlaneSet, has, lits, words_at, IsOf}
 use Rattle.plain_close.specs.declared.task_queues.InChunk.{InChunk}
 use Rattle.plain_close.specs.Queues.{Waiting, Waits, IsFirst}
@@ -33,10 +33,6 @@ pub record AreTasksOf (u : Unrolling) (q : Waiting) : Type 0 where
 
 abbrev pub TaskWaits : Unrolling → Waiting → Task → Type 0
 TaskWaits u q t = Waits q (target_of u t) (chunk_of u t)
-
--- what the task forces from these literals is among them
-abbrev pub IsDone : Unrolling → Task → (Lit → Bool) → Type 0
-IsDone u t known = (l : Lit) → ForcedIn u t known l → known l ≡ true
 
 -- each task waits or is done
 abbrev pub IsSettled : Unrolling → PlaneSet → Waiting → Type 0
@@ -65,10 +61,6 @@ own_woken u (Driven _ pins) s chunk fresh = task_at u s chunk ∷ []
 -- all tasks that they are in
 abbrev pub woken_from : Unrolling → Sig → ℕ → ℕ → List Task
 woken_from u s chunk fresh = own_woken u (driver_at u.circuit.drivers s.0) s chunk fresh ++ map (λ r. task_at u r chunk) (other_readers u.circuit.drivers s)
-
--- a flip-flop that is its own pin
-abbrev pub drives_itself : Unrolling → Sig → Bool
-drives_itself u s = is_flip_flop (driver_at u.circuit.drivers s.0) && reads (driver_at u.circuit.drivers s.0) s
 
 -- whether the planes have a bit of a block
 abbrev pub has_bit : PlaneSet → Block → Bool → ℕ → Bool
@@ -137,7 +129,7 @@ pub record AreForced (u : Unrolling) (planes : PlaneSet) (target : Sig) (chunk :
   pub view_is : view ≡ map (words_at planes) (blocks_from u target chunk)
   pub out_size : length out ≡ length places
   pub exact : IsForcedExactly u (task_at u target chunk) (blocks_from u target chunk) view out
-  pub later : HasNoLaterBit u (map (block_in u) places) out
+  pub later : HaveNoLaterBit u (map (block_in u) places) out
 
 -- what a task forces from the seen literals is added, and nothing else
 pub record AddsForced (u : Unrolling) (t : Task) (seen old new : PlaneSet) : Type 0 where

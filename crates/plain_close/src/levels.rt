@@ -1,10 +1,9 @@
 //! The levels between a base and its closure, and the first one that has both literals of a cell.
 ghost use Rattle.std.specs.Prelude.{◌<◌, IfOk, IfSome, IsNone, IsTrue, IsFalse};
 ghost use Rattle.sr_model.specs.declared.cells.Cell.{Cell as AnyCell};
-ghost use Rattle.sr_model.specs.Closure.{Closure, HasBoth, IsClash, IsClosed, SameLits};
+ghost use Rattle.sr_model.specs.Closure.{Closure, HasBoth, IsClash, IsClosed, IsLeastClash, SameLits};
 ghost use Rattle.unroll.specs.Problem.{signals_in, unrolled};
 ghost use Rattle.known_planes.specs.Planes.{IsOf, lits};
-ghost use Rattle.known_planes.specs.Clash.{IsLeastClash};
 ghost use Rattle.plain_close.specs.Levels.{IsLevel, IsNext};
 
 use crate::next_level::{NextLevel, force_waiting, take_changed};

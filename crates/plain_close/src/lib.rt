@@ -1,4 +1,8 @@
 //! Closes a set of literals under the one-gate rules on one thread: by tasks that wait, and level by level up to the first clash.
+//!
+//! No contract sees how long a call takes, so what is faster only is tested, not proved: that `close_until_clash` goes no further once a cell has both literals
+//! (`stops_at_a_clash` in `tests/closing.rt`), that a task that is pushed while it waits does not wait twice (`waits_once` in `tests/queues.rt`), and that tasks of one
+//! chunk are taken one after another (`stays_in_a_chunk` there).
 #![tactic(auto)]
 
 mod levels;

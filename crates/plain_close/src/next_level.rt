@@ -3,10 +3,9 @@ ghost use Rattle.std.specs.Prelude.{ℕ, ◌≡◌, ◌<◌, ◌≤◌, ◌⊎�
 ghost use Rattle.sr_model.specs.declared.cells.Sig.{Sig as AnySig};
 ghost use Rattle.sr_model.specs.Closure.{ForcesSomewhere, SameLits};
 ghost use Rattle.unroll.specs.declared.problem.Block.{Block as AnyBlock};
-ghost use Rattle.unroll.specs.Problem.{unrolled};
+ghost use Rattle.unroll.specs.Problem.{HaveNoLaterBit, unrolled, HasNoLaterBit};
 ghost use Rattle.unroll.specs.Tasks.{task_at};
-ghost use Rattle.gate_rules.specs.Forced.{HasNoLaterBit};
-ghost use Rattle.known_planes.specs.Planes.{IsOf, HasNoFurtherBit, lits, words_at};
+ghost use Rattle.known_planes.specs.Planes.{IsOf, lits, words_at};
 ghost use Rattle.plain_close.specs.Queues.{Waits};
 ghost use Rattle.plain_close.specs.Turns.{IsTaskAt, AreTasksOf, IsInside, IsSettled, Wakes, Joins, JoinsFirst, AddsForced, HaveNoClash, block_in, has_bit};
 ghost use Rattle.plain_close.specs.Levels.{IsNoted};
@@ -112,7 +111,7 @@ fn join_forced(
     requires of { IsOf p.now planes.now }
     requires inside { All (IsInside p.now) places.now.items }
     requires out { length out.now.items ≡ length places.now.items }
-    requires later { HasNoLaterBit p.now (map (block_in p.now) places.now.items) out.now.items }
+    requires later { HaveNoLaterBit p.now (map (block_in p.now) places.now.items) out.now.items }
     requires noted { IsNoted p.now planes.now next.old.planes next.old.changed.items }
     ensures noted { OnOk result (IsNoted p.now planes.now next.new.planes next.new.changed.items) }
     ensures bits { OnOk result ((b : AnyBlock) (bit : Bool) (i : ℕ) → has_bit next.old.planes b bit i ≡ true → has_bit next.new.planes b bit i ≡ true) }
@@ -136,7 +135,7 @@ fn join_fresh(
 ) -> Result<(), NoMemory>
     requires of { IsOf p.now planes.now }
     requires inside { IsInside p.now at }
-    requires no_further { HasNoFurtherBit p.now at.chunk words }
+    requires no_later { HasNoLaterBit p.now.cycles at.chunk words }
     requires noted { IsNoted p.now planes.now next.old.planes next.old.changed.items }
     ensures noted { OnOk result (IsNoted p.now planes.now next.new.planes next.new.changed.items) }
     ensures bits { OnOk result ((b : AnyBlock) (bit : Bool) (i : ℕ) → has_bit next.old.planes b bit i ≡ true → has_bit next.new.planes b bit i ≡ true) }
@@ -159,7 +158,7 @@ fn join_noted(
 ) -> Result<(), NoMemory>
     requires of { IsOf p.now planes.now }
     requires inside { IsInside p.now at }
-    requires no_further { HasNoFurtherBit p.now at.chunk words }
+    requires no_later { HasNoLaterBit p.now.cycles at.chunk words }
     requires noted { IsNoted p.now planes.now next.old.planes next.old.changed.items }
     ensures noted { OnOk result (IsNoted p.now planes.now next.new.planes next.new.changed.items) }
     ensures bits { OnOk result ((b : AnyBlock) (bit : Bool) (i : ℕ) → has_bit next.old.planes b bit i ≡ true → has_bit next.new.planes b bit i ≡ true) }

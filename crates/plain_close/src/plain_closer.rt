@@ -69,14 +69,14 @@ impl Closer for PlainCloser {
         p: &Problem,
         base: &Planes,
     ) -> Result<Planes, NoMemory> {
-        let mut start = begin(alloc, p, base)?;
+        let mut known = begin(alloc, p, base)?;
         turn_until_clash(
             p,
-            &mut start.planes,
-            &mut start.queues,
+            &mut known.planes,
+            &mut known.queues,
             &mut Buffers::new(alloc)?,
         )?;
-        Ok(start.planes)
+        Ok(known.planes)
     }
 }
 

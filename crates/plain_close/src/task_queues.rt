@@ -15,7 +15,7 @@ pub struct InChunk {
     pub chunk: u32,
 }
 
-/// The tasks that wait, each once: one queue for each chunk, and one flag for each task.
+/// The tasks that wait: one queue for each chunk, and one flag for each task.
 ///
 /// Tasks of one chunk are taken one after another as long as there are some, so that the words in use lie near each other.
 #[derive(Drop)]
@@ -59,7 +59,7 @@ impl TaskQueues {
         }
     }
 
-    /// Lets a task wait, if it does not yet.
+    /// Lets a task wait; one that waits already waits on.
     pub fn push(&mut self, target: Sig, chunk: u32) -> Result<(), NoMemory>
         requires target { target.0 < self.old.signals }
         requires chunk { chunk < length self.old.rows }

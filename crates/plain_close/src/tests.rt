@@ -1,6 +1,7 @@
-//! Closers and levels on small netlists, with values that were worked out by hand.
+//! Closers and levels on small netlists, with values that were worked out by hand, and the tasks that wait.
 mod closing;
 mod levels;
+mod queues;
 
 use netlist::{Netlist, are_statements, build};
 use sr_model::{Bytes, Kind, Names, Numbered, Statement, Statements};

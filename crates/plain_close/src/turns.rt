@@ -6,12 +6,12 @@ ghost use Rattle.sr_model.specs.Closure.{Closure, HasBoth, IsWithin, SameLits, I
 ghost use Rattle.netlist.specs.Wiring.{driver_at, is_flip_flop};
 ghost use Rattle.unroll.specs.declared.problem.Block.{Block as AnyBlock};
 ghost use Rattle.unroll.specs.Bits.{is_set, word_for};
-ghost use Rattle.unroll.specs.Problem.{IsProblem, unrolled, signals_in, chunks_in, block_at};
-ghost use Rattle.unroll.specs.Tasks.{task_at, blocks_from, blocks_for, goes_on_from};
-ghost use Rattle.gate_rules.specs.Forced.{HasNoLaterBit};
-ghost use Rattle.known_planes.specs.Planes.{IsOf, has, lits, joined, HasNoFurtherBit};
+ghost use Rattle.unroll.specs.Problem.{HaveNoLaterBit, IsProblem, unrolled, signals_in, chunks_in, block_at, HasNoLaterBit};
+ghost use Rattle.unroll.specs.Tasks.{task_at, blocks_from, blocks_for, drives_itself, goes_on_from};
+ghost use Rattle.gate_rules.specs.Forced.{IsDone};
+ghost use Rattle.known_planes.specs.Planes.{IsOf, has, lits, joined};
 ghost use Rattle.plain_close.specs.Queues.{Waits, IsFirst, waiting_count};
-ghost use Rattle.plain_close.specs.Turns.{IsTaskAt, AreTasksOf, IsSettled, IsDone, IsInside, Pushed, Wakes, Falls, Joins, JoinsFirst, Sees, AreForced, Turns, Between, HaveNoClash, block_in, missing_of, before_woken, chunk_woken, own_woken, woken_from, drives_itself};
+ghost use Rattle.plain_close.specs.Turns.{IsTaskAt, AreTasksOf, IsSettled, IsInside, Pushed, Wakes, Falls, Joins, JoinsFirst, Sees, AreForced, Turns, Between, HaveNoClash, block_in, missing_of, before_woken, chunk_woken, own_woken, woken_from};
 
 use crate::task_queues::{InChunk, TaskQueues};
 use gate_rules::forced_in_chunk;
@@ -341,7 +341,7 @@ fn join_all(
     requires are_tasks { AreTasksOf p.now queues.old }
     requires inside { All (IsInside p.now) places.now.items }
     requires out { length out.now.items ≡ length places.now.items }
-    requires later { HasNoLaterBit p.now (map (block_in p.now) places.now.items) out.now.items }
+    requires later { HaveNoLaterBit p.now (map (block_in p.now) places.now.items) out.now.items }
     ensures wakes { OnOk result (Wakes p.now planes.old planes.new queues.old queues.new) }
     ensures falls { IfOk result (λ added. Falls added planes.old planes.new queues.old queues.new) }
     ensures joins { OnOk result (JoinsFirst (map (block_in p.now) places.now.items) out.now.items (length places.now.items) planes.old planes.new) }
@@ -368,7 +368,7 @@ pub fn join(
     requires are_tasks { AreTasksOf p.now queues.old }
     requires signal { sig.0 < signals_in p.now }
     requires chunk { chunk < chunks_in p.now }
-    requires no_further { HasNoFurtherBit p.now chunk words }
+    requires no_later { HasNoLaterBit p.now.cycles chunk words }
     ensures wakes { OnOk result (Wakes p.now planes.old planes.new queues.old queues.new) }
     ensures falls { IfOk result (λ added. Falls added planes.old planes.new queues.old queues.new) }
     ensures joins { OnOk result (Joins (block_at p.now sig chunk) words planes.old planes.new) }

@@ -25,7 +25,8 @@ use Rattle.dump_reader.specs.Grammar.{Spells}
 use Rattle.dump_reader.specs.Print.{printed, printed_lines, with_line_feed}
 use Rattle.dump_reader.proofs.ReadBack.{read_back}
 use Rattle.ratio.specs.Ratio.{in_thousandths}
-use Rattle.report.specs.Table.{known_bit, known_row, known_rows, known_count, ratio_text, shown}
+use Rattle.known_planes.specs.Counts.{known_count}
+use Rattle.report.specs.Table.{known_bit, known_row, known_rows, ratio_text, shown}
 use Rattle.report.specs.Laws.{TableIsDump}
 
 -- ---- a comment line

@@ -14,11 +14,12 @@ use Rattle.sr_model.specs.declared.cells.Cell.{Cell}
 use Rattle.sr_model.specs.declared.cells.Lit.{Lit}
 use Rattle.sr_model.specs.Netlist.{Unrolled, cell_at}
 use Rattle.sr_model.specs.Closure.{IsWithin, passing, lit}
+use Rattle.sr_model.specs.Decisions.{IsConsistent}
 use Rattle.sr_model.specs.Dump.{Row, dump_has, is_bit}
 use Rattle.sr_model.proofs.ClosureLaws.{sound, least, closed, has_base}
 use Rattle.netlist.specs.Circuit.{unrolled_over}
 use Rattle.report.specs.Table.{known_bit, known_row, shown}
-use Rattle.report.specs.Laws.{TableAgain, TableIsSound, HasNoClash}
+use Rattle.report.specs.Laws.{TableAgain, TableIsSound}
 
 -- ---- each literal of the rows is known
 
@@ -86,7 +87,7 @@ bit_by-is false false apart true h = absurd (false≢true h)
 bit_by-is false false apart false h = absurd (false≢true h)
 
 -- where not both literals of a cell are known
-known_bit-is : (known : Lit → Bool) → HasNoClash known → (cycle : ℕ) (sig : Sig) (bit : Bool) → IsTrue (known (lit (cell_at cycle sig) bit)) → known_bit known cycle sig ≡ Some bit
+known_bit-is : (known : Lit → Bool) → IsConsistent (passing known) → (cycle : ℕ) (sig : Sig) (bit : Bool) → IsTrue (known (lit (cell_at cycle sig) bit)) → known_bit known cycle sig ≡ Some bit
 known_bit-is known apart cycle sig true h = bit_by-is (known (lit (cell_at cycle sig) false)) (known (lit (cell_at cycle sig) true)) (λ f g. apart (cell_at cycle sig) (f, g)) true h
 known_bit-is known apart cycle sig false h = bit_by-is (known (lit (cell_at cycle sig) false)) (known (lit (cell_at cycle sig) true)) (λ f g. apart (cell_at cycle sig) (f, g)) false h
 

@@ -1,30 +1,26 @@
 -- The text of a table by its parts.
-use Rattle.std.proofs.Common.{ℕ, ◌+◌, ◌<◌, ◌≡◌, Bool, Option, List, [], ◌∷◌, ◌++◌, length, get_or, take, drop, map, sym, ap, subst, ◌∙◌, arith, append_assoc}
-use Rattle.std.specs.Prelude.{codes, Result}
+use Rattle.std.proofs.Common.{ℕ, ◌+◌, ◌<◌, ◌≡◌, Bool, List, [], ◌∷◌, ◌++◌, length, get_or, take, drop, suc, map, sym, ap, subst, ◌∙◌, arith, append_assoc}
+use Rattle.std.specs.Prelude.{codes}
 use Rattle.std.specs.List.{flat_map}
 use Rattle.std.specs.Fmt.{decimal}
 use Rattle.std.specs.List.{All}
-use Rattle.std.specs.Io.KnownBytes.{append_known}
 use Rattle.std.proofs.lemmas.List.{append-nil, take-append-le, take_all}
 use Rattle.std.proofs.lemmas.List.Concat.{flat_map-append}
 use Rattle.std.proofs.lemmas.List.Elements.{All-filter, All-from_get_or, All-get_or}
 use Rattle.std.proofs.lemmas.List.Folds.{flat_map-map}
 use Rattle.std.proofs.lemmas.List.FromFn.{get_or-map-range_with_len, length-map-range_with_len, map-range_with_len_more, take-map-range_with_len}
-use Rattle.sr_outside.specs.declared.write.WriteFault.{WriteFault}
-use Rattle.sr_outside.specs.Told.{AppendsPart}
 use Rattle.sr_text.specs.Numbers.{put_front}
 use Rattle.sr_model.specs.Netlist.{Driver}
 use Rattle.netlist.specs.Wiring.{driver_at, is_flip_flop, flip_flops, signals_below}
-use Rattle.report.specs.Writes.{Writes}
-use Rattle.report.proofs.InTurn.{writes_both}
-use Rattle.report.proofs.Joined.{append_known-append, part_before, part_behind, part_of_texts}
+use Rattle.report.proofs.Joined.{texts_at}
 use Rattle.sr_model.specs.declared.cells.Sig.{Sig}
 use Rattle.sr_model.specs.declared.cells.Lit.{Lit}
 use Rattle.sr_model.specs.Dump.{Row}
 use Rattle.netlist.specs.Circuit.{Circuit}
 use Rattle.dump_reader.specs.Print.{row_text, with_line_feed, printed}
 use Rattle.report.specs.Rows.{head_text, row_lines}
-use Rattle.report.specs.Table.{known_row, known_count, ratio_line, shown, table_text}
+use Rattle.known_planes.specs.Counts.{known_count}
+use Rattle.report.specs.Table.{known_row, ratio_line, shown, table_text}
 
 -- the head and the rows of these signals
 pub printed_parts : (c : Circuit) (cycles : ℕ) (known : Lit → Bool) (sigs : List Sig) →
@@ -41,36 +37,10 @@ pub table_parts : (c : Circuit) (cycles : ℕ) (known : Lit → Bool) (traced : 
     table_text c cycles known traced all ≡ head_text cycles ++ row_lines c cycles known (shown c all) ++ ratio_line traced (known_count c cycles known)
 table_parts c cycles known traced all = ap (λ text. text ++ ratio_line traced (known_count c cycles known)) (printed_parts c cycles known (shown c all))
 
--- a part of the head or of the rows is a part of the table
-pub part_of_head : (c : Circuit) (cycles : ℕ) (known : Lit → Bool) (traced : ℕ) (all : Bool) (old new : Option (List ℕ)) → AppendsPart old new (head_text cycles)
-    → AppendsPart old new (table_text c cycles known traced all)
-part_of_head c cycles known traced all old new part =
-    let rows : List ℕ = row_lines c cycles known (shown c all) in
-    subst (AppendsPart old new) (sym (table_parts c cycles known traced all))
-    (part_before old new (head_text cycles ++ rows) (ratio_line traced (known_count c cycles known)) (part_before old new (head_text cycles) rows part))
-
-pub part_of_rows : (c : Circuit) (cycles : ℕ) (known : Lit → Bool) (traced : ℕ) (all : Bool) (old mid new : Option (List ℕ)) → mid ≡ append_known old (head_text cycles)
-    → AppendsPart mid new (row_lines c cycles known (shown c all)) → AppendsPart old new (table_text c cycles known traced all)
-part_of_rows c cycles known traced all old mid new before part =
-    let rows : List ℕ = row_lines c cycles known (shown c all) in
-    subst (AppendsPart old new) (sym (table_parts c cycles known traced all))
-    (part_before old new (head_text cycles ++ rows) (ratio_line traced (known_count c cycles known)) (part_behind old mid new (head_text cycles) rows before part))
-
--- the head and the rows were written, and then the ratio line or a part of it
-pub writes_table : (c : Circuit) (cycles : ℕ) (known : Lit → Bool) (traced : ℕ) (all : Bool) (old one two new : Option (List ℕ)) (room : Option ℕ) (f g h k : ℕ) (answer : Result (Unit {0}) WriteFault) (count : ℕ)
-    → one ≡ append_known old (head_text cycles) → g ≡ f → two ≡ append_known one (row_lines c cycles known (shown c all)) → h ≡ g → count ≡ known_count c cycles known
-    → Writes two new room h k answer (ratio_line traced count) → Writes old new room f k answer (table_text c cycles known traced all)
-writes_table c cycles known traced all old one two new room f g h k answer count head same rows steady is line =
-    subst (Writes old new room f k answer) whole (writes_both old two new room f h k answer front (ratio_line traced count) before (steady ∙ same) line)
-  where
-    front : List ℕ
-    front = head_text cycles ++ row_lines c cycles known (shown c all)
-
-    before : two ≡ append_known old front
-    before = rows ∙ ap (λ told. append_known told (row_lines c cycles known (shown c all))) head ∙ append_known-append old (head_text cycles) (row_lines c cycles known (shown c all))
-
-    whole : front ++ ratio_line traced count ≡ table_text c cycles known traced all
-    whole = ap (λ n. front ++ ratio_line traced n) is ∙ sym (table_parts c cycles known traced all)
+-- the parts in turn
+pub table_in_turn : (c : Circuit) (cycles : ℕ) (known : Lit → Bool) (traced : ℕ) (all : Bool) →
+    table_text c cycles known traced all ≡ head_text cycles ++ (row_lines c cycles known (shown c all) ++ ratio_line traced (known_count c cycles known))
+table_in_turn c cycles known traced all = table_parts c cycles known traced all ∙ append_assoc (head_text cycles) (row_lines c cycles known (shown c all)) (ratio_line traced (known_count c cycles known))
 
 -- what was put at the front
 pub front_of : (text bytes new : List ℕ) (n : ℕ) → n ≡ length text → new ≡ put_front text bytes → take n new ≡ text
@@ -97,19 +67,16 @@ pub sig_within : (drivers : List Driver) (sigs : List Sig) (i : ℕ) (d : Sig) �
 sig_within drivers sigs i d is lt =
     All-get_or (λ s. s.0 < length drivers) sigs i d lt (subst (λ (xs : List Sig). All (λ s. s.0 < length drivers) xs) (sym is) (flip_flops_within drivers))
 
--- one more signal's text was written
-pub signals_more : (f : Sig → List ℕ) (old mid new : Option (List ℕ)) (n : ℕ) → mid ≡ append_known old (flat_map f (signals_below n)) → new ≡ append_known mid (f (record { 0 = n }))
-    → new ≡ append_known old (flat_map f (signals_below (n + 1)))
-signals_more f old mid new n before after =
+-- the texts of the signals before one, and that one's
+pub signals_more : (f : Sig → List ℕ) (n : ℕ) → flat_map f (signals_below (n + 1)) ≡ flat_map f (signals_below n) ++ f (record { 0 = n })
+signals_more f n =
     let sig : Sig = record { 0 = n } in
-    let more : flat_map f (signals_below (n + 1)) ≡ flat_map f (signals_below n) ++ f sig =
-    ap (flat_map f) (map-range_with_len_more (λ s. let x : Sig = record { 0 = s } in x) 0 n n (omega arith)) ∙ flat_map-append f (signals_below n) (sig ∷ []) ∙ ap (λ ys. flat_map f (signals_below n) ++ ys) (append-nil (f sig)) in
-    after ∙ ap (λ known. append_known known (f sig)) before ∙ append_known-append old (flat_map f (signals_below n)) (f sig) ∙ ap (append_known old) (sym more)
+    ap (flat_map f) (map-range_with_len_more (λ s. let x : Sig = record { 0 = s } in x) 0 n n (omega arith)) ∙ flat_map-append f (signals_below n) (sig ∷ []) ∙ ap (λ ys. flat_map f (signals_below n) ++ ys) (append-nil (f sig))
 
--- a part of one signal's text is a part of those of all
-pub part_of_signals : (f : Sig → List ℕ) (old mid new : Option (List ℕ)) (n total : ℕ) → n < total → mid ≡ append_known old (flat_map f (signals_below n)) → AppendsPart mid new (f (record { 0 = n }))
-    → AppendsPart old new (flat_map f (signals_below total))
-part_of_signals f old mid new n total lt before part =
-    part_of_texts f old mid new (signals_below total) n no_sig (subst (λ k. n < k) (sym (length_signals total)) lt)
-    (before ∙ ap (λ sigs. append_known old (flat_map f sigs)) (sym (take-map-range_with_len (λ s. let x : Sig = record { 0 = s } in x) 0 total n (omega (arith, lt)))))
-    (subst (λ s. AppendsPart mid new (f s)) (sym (signal_at total n no_sig lt)) part)
+-- the texts of the signals before one, that one's, and those after it
+pub signals_at : (f : Sig → List ℕ) (n total : ℕ) → n < total
+    → flat_map f (signals_below total) ≡ flat_map f (signals_below n) ++ (f (record { 0 = n }) ++ flat_map f (drop (suc n) (signals_below total)))
+signals_at f n total lt =
+    texts_at f (signals_below total) n no_sig (subst (λ k. n < k) (sym (length_signals total)) lt)
+    ∙ ap (λ sigs. flat_map f sigs ++ (f (get_or (signals_below total) n no_sig) ++ flat_map f (drop (suc n) (signals_below total)))) (take-map-range_with_len (λ s. let x : Sig = record { 0 = s } in x) 0 total n (omega (arith, lt)))
+    ∙ ap (λ sig. flat_map f (signals_below n) ++ (f sig ++ flat_map f (drop (suc n) (signals_below total)))) (signal_at total n no_sig lt)

@@ -1,9 +1,9 @@
 -- Laws of tables: a table is a dump, which makes the same rows again, and its bits are those of each execution that matches.
 use Rattle.std.specs.Prelude.{ℕ, ◌≡◌, ◌≤◌, Bool, length}
-use Rattle.sr_model.specs.declared.cells.Cell.{Cell}
 use Rattle.sr_model.specs.declared.cells.Lit.{Lit}
 use Rattle.sr_model.specs.Netlist.{Valuation, IsExecution}
-use Rattle.sr_model.specs.Closure.{SameLits, HasBoth, passing}
+use Rattle.sr_model.specs.Closure.{SameLits, passing}
+use Rattle.sr_model.specs.Decisions.{IsConsistent}
 use Rattle.sr_model.specs.Dump.{Known, Matches}
 use Rattle.netlist.specs.Circuit.{Circuit, IsCircuit, unrolled_over}
 use Rattle.dump_reader.specs.Recording.{Recording, IsCount}
@@ -20,15 +20,11 @@ TableIsDump =
 abbrev pub IsKnownFrom : Circuit → Recording → (Lit → Bool) → Type 0
 IsKnownFrom c d known = SameLits (passing known) (Known (unrolled_over c d.cycles) d.rows)
 
--- it never passes both literals of a cell
-abbrev pub HasNoClash : (Lit → Bool) → Type 0
-HasNoClash known = (cell : Cell) → HasBoth (passing known) cell → ⊥
-
 -- what is known from the rows of a table, taken as a dump, makes a table with the same rows, and has no contradiction
 abbrev pub TableAgain : Type 0
 TableAgain =
-    (c : Circuit) (d : Recording) (known again : Lit → Bool) (all : Bool) → IsKnownFrom c d known → HasNoClash known → IsKnownFrom c (known_rows c d.cycles known all) again
-    → (known_rows c d.cycles again all ≡ known_rows c d.cycles known all) × HasNoClash again
+    (c : Circuit) (d : Recording) (known again : Lit → Bool) (all : Bool) → IsKnownFrom c d known → IsConsistent (passing known) → IsKnownFrom c (known_rows c d.cycles known all) again
+    → (known_rows c d.cycles again all ≡ known_rows c d.cycles known all) × IsConsistent (passing again)
 
 -- each execution that matches a dump matches the table of what is known from it
 abbrev pub TableIsSound : Type 0

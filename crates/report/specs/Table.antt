@@ -1,6 +1,6 @@
 -- The text of a table: what is known of each shown signal in each cycle, and how many flip-flop cells are known.
-use Rattle.std.specs.Prelude.{ℕ, ◌||◌, Bool, true, false, List, ◌++◌, map, length, codes, Option, Some, None, if◌then◌else◌}
-use Rattle.std.specs.List.{count_by, sum_by, range_with_len}
+use Rattle.std.specs.Prelude.{ℕ, Bool, true, false, List, ◌++◌, map, length, codes, Option, Some, None, if◌then◌else◌}
+use Rattle.std.specs.List.{range_with_len}
 use Rattle.std.specs.Fmt.{decimal}
 use Rattle.sr_model.specs.declared.cells.Sig.{Sig}
 use Rattle.sr_model.specs.declared.cells.Lit.{Lit}
@@ -12,6 +12,7 @@ use Rattle.netlist.specs.Circuit.{Circuit}
 use Rattle.netlist.specs.Wiring.{flip_flops, signals_below}
 use Rattle.dump_reader.specs.Recording.{Recording}
 use Rattle.dump_reader.specs.Print.{printed}
+use Rattle.known_planes.specs.Counts.{known_count}
 use Rattle.ratio.specs.Ratio.{in_thousandths}
 
 -- the bit that is known of a cell, if one is
@@ -30,10 +31,6 @@ shown c all = if all then signals_below (length c.drivers) else flip_flops c.dri
 
 abbrev pub known_rows : Circuit → ℕ → (Lit → Bool) → Bool → Recording
 known_rows c cycles known all = record { cycles = cycles; rows = map (known_row known cycles) (shown c all) }
-
--- how many cells of flip-flops are known
-abbrev pub known_count : Circuit → ℕ → (Lit → Bool) → ℕ
-known_count c cycles known = sum_by (λ s. count_by (λ t. known (lit (cell_at t s) false) || known (lit (cell_at t s) true)) (range_with_len 0 cycles)) (flip_flops c.drivers)
 
 -- a ratio in thousandths, or that there is none
 abbrev pub ratio_text : Option ℕ → List ℕ

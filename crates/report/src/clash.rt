@@ -12,7 +12,7 @@ use sr_outside::{Sink, WriteFault};
 /// Writes that both literals of the cell are known. It takes no memory.
 pub fn write_clash<K: Sink>(n: &Netlist, cell: Cell, out: &mut K) -> Result<(), WriteFault>
     requires { cell.sig.0 < length n.now.drivers }
-    ensures { Writes (K.written out.old) (K.written out.new) (K.room out.new) (K.faults out.old) (K.faults out.new) result (clash_line n.now cell) }
+    ensures { Writes K.written K.room K.faults out.old out.new result (clash_line n.now cell) }
 {
     let start: &[u8] = b"contradiction ";
     let space: &[u8] = b" ";

@@ -17,7 +17,7 @@ pub fn write_load<K: Sink>(
     ratio: &Ratio,
     out: &mut K,
 ) -> Result<(), WriteFault>
-    ensures { Writes (K.written out.old) (K.written out.new) (K.room out.new) (K.faults out.old) (K.faults out.new) result (load_line number signals flip_flops ratio.now) }
+    ensures { Writes K.written K.room K.faults out.old out.new result (load_line number signals flip_flops ratio.now) }
 {
     let load_is: &[u8] = b"load number ";
     let signals_are: &[u8] = b" signals ";

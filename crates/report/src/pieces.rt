@@ -1,15 +1,22 @@
-//! Writing a text piece by piece.
+//! Writing a text whole or piece by piece.
 ghost use Rattle.report.specs.Joined.{joined};
 ghost use Rattle.report.specs.Writes.{Writes};
 
 use sr_outside::{Sink, WriteFault, write_all};
 
+/// Writes the text, in as few puts as the sink allows. It takes no memory.
+pub(crate) fn write_text<K: Sink>(out: &mut K, text: &[u8]) -> Result<(), WriteFault>
+    ensures { Writes K.written K.room K.faults out.old out.new result text.now }
+{
+    write_all(out, text)
+}
+
 /// Writes the pieces, one after another.
 pub(crate) fn write_pieces<K: Sink>(out: &mut K, pieces: &[&[u8]]) -> Result<(), WriteFault>
-    ensures { Writes (K.written out.old) (K.written out.new) (K.room out.new) (K.faults out.old) (K.faults out.new) result (joined pieces.now) }
+    ensures { Writes K.written K.room K.faults out.old out.new result (joined pieces.now) }
 {
     for piece in pieces {
-        match write_all(out, piece) {
+        match write_text(out, piece) {
             Ok(()) => {}
             Err(WriteFault) => return Err(WriteFault),
         }

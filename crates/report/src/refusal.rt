@@ -4,16 +4,15 @@ ghost use Rattle.std.specs.String.{string_bytes};
 ghost use Rattle.report.specs.Refusals.{AreThere, refusal_line};
 ghost use Rattle.report.specs.Writes.{Writes};
 
+use crate::pieces::write_text;
 use crate::refusal_lines::{
-    write_bench_refusal, write_dump_refusal, write_fault, write_net_refusal, write_text,
-    write_too_long,
+    write_bench_refusal, write_dump_refusal, write_fault, write_net_refusal, write_too_long,
 };
 use crate::word_lines::{write_many_cells, write_name, write_word_refusal};
 use bench_reader::BenchRefusal;
 use dump_reader::DumpRefusal;
 use netlist::NetRefusal;
 use sr_outside::{Sink, WriteFault};
-use thiserror::Error;
 
 /// Which input is spoken of.
 #[derive(Clone, Copy, Debug, PartialEq, Eq)]
@@ -23,13 +22,11 @@ pub enum Part {
 }
 
 /// Why the words are refused.
-#[derive(Clone, Copy, Debug, PartialEq, Eq, Error)]
+#[derive(Clone, Copy, Debug, PartialEq, Eq)]
 pub enum WordRefusal {
     /// They have none of the commands' shapes.
-    #[error("usage")]
     Usage,
     /// A number is none that its key takes. The word is the first such one, by its place among the words.
-    #[error("word {place}: number")]
     Number { place: u32 },
 }
 
@@ -38,17 +35,17 @@ pub enum WordRefusal {
 #[derive(Debug, Drop)]
 pub enum Refusal {
     /// The netlist's text is refused.
-    Bench { refusal: BenchRefusal },
+    Bench(BenchRefusal),
     /// The netlist's statements are refused.
-    Net { refusal: NetRefusal },
+    Net(NetRefusal),
     /// The dump's text is refused.
-    Dumped { refusal: DumpRefusal },
+    Dumped(DumpRefusal),
     /// The words are refused.
-    Words { refusal: WordRefusal },
+    Words(WordRefusal),
     /// An input has too many bytes.
-    TooLong { part: Part },
+    TooLong(Part),
     /// An input was not read.
-    Fault { part: Part },
+    Fault(Part),
     /// The words ask for too many cells.
     CellsByWords { product: u64 },
     /// A name of the list is that of no signal.
@@ -62,17 +59,17 @@ pub enum Refusal {
 /// Writes the line of the refusal. It takes no memory.
 pub fn write_refusal<K: Sink>(r: &Refusal, words: &[String], out: &mut K) -> Result<(), WriteFault>
     requires { AreThere (map string_bytes words.now) r.now }
-    ensures { Writes (K.written out.old) (K.written out.new) (K.room out.new) (K.faults out.old) (K.faults out.new) result (refusal_line (map string_bytes words.now) r.now) }
+    ensures { Writes K.written K.room K.faults out.old out.new result (refusal_line (map string_bytes words.now) r.now) }
 {
     let unknown: &'static [u8] = b"srestore: words: 26 unknown trace ";
     let twice: &'static [u8] = b"srestore: words: 27 trace twice ";
     match r {
-        Refusal::Bench { refusal } => write_bench_refusal(out, refusal),
-        Refusal::Net { refusal } => write_net_refusal(out, refusal),
-        Refusal::Dumped { refusal } => write_dump_refusal(out, refusal),
-        Refusal::Words { refusal } => write_word_refusal(out, words, *refusal),
-        Refusal::TooLong { part } => write_too_long(out, *part),
-        Refusal::Fault { part } => write_fault(out, *part),
+        Refusal::Bench(refusal) => write_bench_refusal(out, refusal),
+        Refusal::Net(refusal) => write_net_refusal(out, refusal),
+        Refusal::Dumped(refusal) => write_dump_refusal(out, refusal),
+        Refusal::Words(refusal) => write_word_refusal(out, words, *refusal),
+        Refusal::TooLong(part) => write_too_long(out, *part),
+        Refusal::Fault(part) => write_fault(out, *part),
         Refusal::CellsByWords { product } => write_many_cells(out, *product),
         Refusal::TraceUnknown { place, item } => write_name(out, unknown, words, *place, *item),
         Refusal::TraceTwice { place, item } => write_name(out, twice, words, *place, *item),

@@ -4,13 +4,13 @@ ghost use Rattle.std.specs.Fmt.{decimal};
 ghost use Rattle.report.specs.InputRefusals.{name_of, too_long_line, refused_line, bench_line, net_line, dump_line, fault_line};
 ghost use Rattle.report.specs.Writes.{Writes};
 
-use crate::pieces::write_pieces;
+use crate::pieces::{write_pieces, write_text};
 use crate::refusal::Part;
 use bench_reader::BenchRefusal;
 use dump_reader::DumpRefusal;
 use itoa::Buffer;
 use netlist::NetRefusal;
-use sr_outside::{Sink, WriteFault, write_all};
+use sr_outside::{Sink, WriteFault};
 
 impl Part {
     fn name(self) -> &'static [u8]
@@ -28,7 +28,7 @@ pub(crate) fn write_bench_refusal<K: Sink>(
     out: &mut K,
     refusal: &BenchRefusal,
 ) -> Result<(), WriteFault>
-    ensures { Writes (K.written out.old) (K.written out.new) (K.room out.new) (K.faults out.old) (K.faults out.new) result (bench_line refusal.now) }
+    ensures { Writes K.written K.room K.faults out.old out.new result (bench_line refusal.now) }
 {
     match *refusal {
         BenchRefusal::Syntax { line } => {
@@ -52,7 +52,7 @@ pub(crate) fn write_net_refusal<K: Sink>(
     out: &mut K,
     refusal: &NetRefusal,
 ) -> Result<(), WriteFault>
-    ensures { Writes (K.written out.old) (K.written out.new) (K.room out.new) (K.faults out.old) (K.faults out.new) result (net_line refusal.now) }
+    ensures { Writes K.written K.room K.faults out.old out.new result (net_line refusal.now) }
 {
     match refusal {
         NetRefusal::TooManySignals { line } => {
@@ -75,7 +75,7 @@ pub(crate) fn write_dump_refusal<K: Sink>(
     out: &mut K,
     refusal: &DumpRefusal,
 ) -> Result<(), WriteFault>
-    ensures { Writes (K.written out.old) (K.written out.new) (K.room out.new) (K.faults out.old) (K.faults out.new) result (dump_line refusal.now) }
+    ensures { Writes K.written K.room K.faults out.old out.new result (dump_line refusal.now) }
 {
     match *refusal {
         DumpRefusal::Head { line } => {
@@ -106,7 +106,7 @@ pub(crate) fn write_dump_refusal<K: Sink>(
 
 /// Writes that an input has too many bytes.
 pub(crate) fn write_too_long<K: Sink>(out: &mut K, part: Part) -> Result<(), WriteFault>
-    ensures { Writes (K.written out.old) (K.written out.new) (K.room out.new) (K.faults out.old) (K.faults out.new) result (too_long_line part) }
+    ensures { Writes K.written K.room K.faults out.old out.new result (too_long_line part) }
 {
     let start: &[u8] = b"srestore: ";
     let why: &[u8] = b": 24 too long\n";
@@ -115,17 +115,11 @@ pub(crate) fn write_too_long<K: Sink>(out: &mut K, part: Part) -> Result<(), Wri
 
 /// Writes that an input was not read.
 pub(crate) fn write_fault<K: Sink>(out: &mut K, part: Part) -> Result<(), WriteFault>
-    ensures { Writes (K.written out.old) (K.written out.new) (K.room out.new) (K.faults out.old) (K.faults out.new) result (fault_line part) }
+    ensures { Writes K.written K.room K.faults out.old out.new result (fault_line part) }
 {
     let start: &[u8] = b"srestore: read fault ";
     let end: &[u8] = b"\n";
     write_pieces(out, &[start, part.name(), end])
-}
-
-pub(crate) fn write_text<K: Sink>(out: &mut K, text: &[u8]) -> Result<(), WriteFault>
-    ensures { Writes (K.written out.old) (K.written out.new) (K.room out.new) (K.faults out.old) (K.faults out.new) result text.now }
-{
-    write_all(out, text)
 }
 
 /// Writes that a line of an input is refused, and why.
@@ -135,7 +129,7 @@ fn write_refused_line<K: Sink>(
     line: u64,
     why: &'static [u8],
 ) -> Result<(), WriteFault>
-    ensures { Writes (K.written out.old) (K.written out.new) (K.room out.new) (K.faults out.old) (K.faults out.new) result (refused_line part line why.now) }
+    ensures { Writes K.written K.room K.faults out.old out.new result (refused_line part line why.now) }
 {
     let start: &[u8] = b"srestore: ";
     let at: &[u8] = b" line ";
@@ -146,7 +140,7 @@ fn write_refused_line<K: Sink>(
 
 /// Writes that a dump has too many cells.
 fn write_too_many_cells<K: Sink>(out: &mut K, line: u64, product: u64) -> Result<(), WriteFault>
-    ensures { Writes (K.written out.old) (K.written out.new) (K.room out.new) (K.faults out.old) (K.faults out.new) result (dump_line (DumpRefusal.TooManyCells line product)) }
+    ensures { Writes K.written K.room K.faults out.old out.new result (dump_line (DumpRefusal.TooManyCells line product)) }
 {
     let start: &[u8] = b"srestore: dump line ";
     let why: &[u8] = b": 17 too many cells ";
@@ -163,7 +157,7 @@ fn write_too_many_cells<K: Sink>(out: &mut K, line: u64, product: u64) -> Result
 
 /// Writes that nothing drives a signal.
 fn write_no_driver<K: Sink>(out: &mut K, name: &[u8]) -> Result<(), WriteFault>
-    ensures { Writes (K.written out.old) (K.written out.new) (K.room out.new) (K.faults out.old) (K.faults out.new) result (codes "srestore: netlist: 8 no driver " ++ name.now ++ codes "\n") }
+    ensures { Writes K.written K.room K.faults out.old out.new result (codes "srestore: netlist: 8 no driver " ++ name.now ++ codes "\n") }
 {
     let start: &[u8] = b"srestore: netlist: 8 no driver ";
     let end: &[u8] = b"\n";
@@ -172,7 +166,7 @@ fn write_no_driver<K: Sink>(out: &mut K, name: &[u8]) -> Result<(), WriteFault>
 
 /// Writes that gates drive each other in a loop.
 fn write_loop<K: Sink>(out: &mut K, name: &[u8], length: u32) -> Result<(), WriteFault>
-    ensures { Writes (K.written out.old) (K.written out.new) (K.room out.new) (K.faults out.old) (K.faults out.new) result (codes "srestore: netlist: 9 loop " ++ name.now ++ codes " " ++ decimal length ++ codes "\n") }
+    ensures { Writes K.written K.room K.faults out.old out.new result (codes "srestore: netlist: 9 loop " ++ name.now ++ codes " " ++ decimal length ++ codes "\n") }
 {
     let start: &[u8] = b"srestore: netlist: 9 loop ";
     let space: &[u8] = b" ";

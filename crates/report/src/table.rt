@@ -1,25 +1,24 @@
 //! What is known of the signals, as a table.
 ghost use Rattle.std.specs.Prelude.{◌≡◌, ◌<◌, ◌≤◌, ◌+◌, ◌++◌, length, take};
-ghost use Rattle.sr_model.specs.declared.cells.Cell.{Cell as AnyCell};
-ghost use Rattle.sr_model.specs.Closure.{HasBoth, passing};
+ghost use Rattle.sr_model.specs.Decisions.{IsConsistent};
 ghost use Rattle.sr_text.specs.Numbers.{put_front};
 ghost use Rattle.netlist.specs.Wiring.{flip_flops, signals_below};
 ghost use Rattle.dump_reader.specs.Print.{bit_character};
 ghost use Rattle.ratio.specs.Ratio.{in_thousandths};
 ghost use Rattle.unroll.specs.Bits.{is_set};
 ghost use Rattle.unroll.specs.Problem.{signals_in};
-ghost use Rattle.known_planes.specs.Planes.{IsOf, has};
+ghost use Rattle.known_planes.specs.Planes.{IsOf, has, lits};
 ghost use Rattle.report.specs.Rows.{head_text, row_line, row_lines, cells_text, word_bit, word_text};
-ghost use Rattle.report.specs.Table.{known_count, ratio_line, ratio_text, shown, table_text};
+ghost use Rattle.report.specs.Table.{ratio_line, ratio_text, shown, table_text};
 ghost use Rattle.report.specs.Writes.{Writes};
 
-use crate::pieces::write_pieces;
+use crate::pieces::{write_pieces, write_text};
 use crate::ratio_text::put_ratio;
 use crate::row_buf::RowBuf;
 use known_planes::Planes;
 use ratio::Ratio;
 use sr_model::Sig;
-use sr_outside::{Sink, WriteFault, write_all};
+use sr_outside::{Sink, WriteFault};
 use sr_text::write_u64;
 use unroll::{PinWord, Problem};
 
@@ -36,9 +35,9 @@ pub fn write_table<K: Sink>(
     out: &mut K,
 ) -> Result<(), WriteFault>
     requires of { IsOf p.now planes.now }
-    requires no_clash { (cell : AnyCell) → HasBoth (passing (has p.now planes.now)) cell → ⊥ }
+    requires no_clash { IsConsistent (lits p.now planes.now) }
     requires traced { traced ≤ 536870912 }
-    ensures { Writes (K.written out.old) (K.written out.new) (K.room out.new) (K.faults out.old) (K.faults out.new) result (table_text p.now.circuit p.now.cycles (has p.now planes.now) traced all) }
+    ensures { Writes K.written K.room K.faults out.old out.new result (table_text p.now.circuit p.now.cycles (has p.now planes.now) traced all) }
 {
     write_head(p, out)?;
     write_rows(p, planes, all, buf, out)?;
@@ -47,7 +46,7 @@ pub fn write_table<K: Sink>(
 
 /// Writes the lines before the rows.
 fn write_head<K: Sink>(p: &Problem, out: &mut K) -> Result<(), WriteFault>
-    ensures { Writes (K.written out.old) (K.written out.new) (K.room out.new) (K.faults out.old) (K.faults out.new) result (head_text p.now.cycles) }
+    ensures { Writes K.written K.room K.faults out.old out.new result (head_text p.now.cycles) }
 {
     let mut digits = [0; 20];
     let len = write_u64(u64::from(p.cycles()), &mut digits);
@@ -65,7 +64,7 @@ fn write_rows<K: Sink>(
     out: &mut K,
 ) -> Result<(), WriteFault>
     requires { IsOf p.now planes.now }
-    ensures { Writes (K.written out.old) (K.written out.new) (K.room out.new) (K.faults out.old) (K.faults out.new) result (row_lines p.now.circuit p.now.cycles (has p.now planes.now) (shown p.now.circuit all)) }
+    ensures { Writes K.written K.room K.faults out.old out.new result (row_lines p.now.circuit p.now.cycles (has p.now planes.now) (shown p.now.circuit all)) }
 {
     if all {
         write_all_rows(p, planes, buf, out)
@@ -82,7 +81,7 @@ fn write_all_rows<K: Sink>(
     out: &mut K,
 ) -> Result<(), WriteFault>
     requires { IsOf p.now planes.now }
-    ensures { Writes (K.written out.old) (K.written out.new) (K.room out.new) (K.faults out.old) (K.faults out.new) result (row_lines p.now.circuit p.now.cycles (has p.now planes.now) (signals_below (signals_in p.now))) }
+    ensures { Writes K.written K.room K.faults out.old out.new result (row_lines p.now.circuit p.now.cycles (has p.now planes.now) (signals_below (signals_in p.now))) }
 {
     for number in 0..p.net().signals() {
         write_row(p, planes, Sig(number), buf, out)?;
@@ -98,7 +97,7 @@ fn write_flip_flop_rows<K: Sink>(
     out: &mut K,
 ) -> Result<(), WriteFault>
     requires { IsOf p.now planes.now }
-    ensures { Writes (K.written out.old) (K.written out.new) (K.room out.new) (K.faults out.old) (K.faults out.new) result (row_lines p.now.circuit p.now.cycles (has p.now planes.now) (flip_flops p.now.circuit.drivers)) }
+    ensures { Writes K.written K.room K.faults out.old out.new result (row_lines p.now.circuit p.now.cycles (has p.now planes.now) (flip_flops p.now.circuit.drivers)) }
 {
     for sig in p.net().flip_flops() {
         write_row(p, planes, *sig, buf, out)?;
@@ -116,11 +115,11 @@ fn write_row<K: Sink>(
 ) -> Result<(), WriteFault>
     requires of { IsOf p.now planes.now }
     requires signal { sig.0 < signals_in p.now }
-    ensures { Writes (K.written out.old) (K.written out.new) (K.room out.new) (K.faults out.old) (K.faults out.new) result (row_line p.now.circuit p.now.cycles (has p.now planes.now) sig) }
+    ensures { Writes K.written K.room K.faults out.old out.new result (row_line p.now.circuit p.now.cycles (has p.now planes.now) sig) }
 {
     let bytes = buf.bytes();
     let len = fill_row(p, planes, sig, bytes);
-    write_all(out, &bytes[..len])
+    write_text(out, &bytes[..len])
 }
 
 /// Puts the row of a signal at the front of the bytes, and answers its length.
@@ -213,7 +212,7 @@ fn is_set(word: u64, i: u32) -> bool
 fn write_ratio_line<K: Sink>(known: u64, traced: u64, out: &mut K) -> Result<(), WriteFault>
     requires known { known ≤ 536870912 }
     requires traced { traced ≤ 536870912 }
-    ensures { Writes (K.written out.old) (K.written out.new) (K.room out.new) (K.faults out.old) (K.faults out.new) result (ratio_line traced known) }
+    ensures { Writes K.written K.room K.faults out.old out.new result (ratio_line traced known) }
 {
     let mut traced_digits = [0; 20];
     let mut known_digits = [0; 20];

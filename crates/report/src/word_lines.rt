@@ -4,9 +4,8 @@ ghost use Rattle.std.specs.String.{string_bytes};
 ghost use Rattle.report.specs.Refusals.{HasItem, IsKeyed, WordIsThere, item_of, key_of, many_cells_line, names_of, word_line};
 ghost use Rattle.report.specs.Writes.{Writes};
 
-use crate::pieces::write_pieces;
+use crate::pieces::{write_pieces, write_text};
 use crate::refusal::WordRefusal;
-use crate::refusal_lines::write_text;
 use itoa::Buffer;
 use sr_outside::{Sink, WriteFault};
 
@@ -17,7 +16,7 @@ pub(crate) fn write_word_refusal<K: Sink>(
     refusal: WordRefusal,
 ) -> Result<(), WriteFault>
     requires { WordIsThere (map string_bytes words.now) refusal }
-    ensures { Writes (K.written out.old) (K.written out.new) (K.room out.new) (K.faults out.old) (K.faults out.new) result (word_line (map string_bytes words.now) refusal) }
+    ensures { Writes K.written K.room K.faults out.old out.new result (word_line (map string_bytes words.now) refusal) }
 {
     match refusal {
         WordRefusal::Usage => write_text(out, b"srestore: words: 22 usage\n"),
@@ -39,7 +38,7 @@ pub(crate) fn write_name<K: Sink>(
     item: u32,
 ) -> Result<(), WriteFault>
     requires { HasItem (map string_bytes words.now) place item }
-    ensures { Writes (K.written out.old) (K.written out.new) (K.room out.new) (K.faults out.old) (K.faults out.new) result (why.now ++ item_of (map string_bytes words.now) place item ++ codes "\n") }
+    ensures { Writes K.written K.room K.faults out.old out.new result (why.now ++ item_of (map string_bytes words.now) place item ++ codes "\n") }
 {
     let end: &[u8] = b"\n";
     let name = name_in(words[place as usize].as_str(), item);
@@ -48,7 +47,7 @@ pub(crate) fn write_name<K: Sink>(
 
 /// Writes that the words ask for too many cells.
 pub(crate) fn write_many_cells<K: Sink>(out: &mut K, product: u64) -> Result<(), WriteFault>
-    ensures { Writes (K.written out.old) (K.written out.new) (K.room out.new) (K.faults out.old) (K.faults out.new) result (many_cells_line product) }
+    ensures { Writes K.written K.room K.faults out.old out.new result (many_cells_line product) }
 {
     let start: &[u8] = b"srestore: words: 17 too many cells ";
     let end: &[u8] = b"\n";

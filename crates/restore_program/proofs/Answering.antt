@@ -54,7 +54,11 @@ use Rattle.restore_program.specs.declared.trace.TraceRefusal.TheVariants as trac
 use Rattle.restore_program.specs.WordMeaning.{Means}
 use Rattle.restore_program.specs.Words.{IsBadNumber, IsCommand}
 use Rattle.restore_program.proofs.Gifts.{bad_has_key}
-use Rattle.restore_program.specs.Answer.{most_bytes, IsNetlistText, RefusedNetlist, netlist_too_long, bad_line, no_netlist, IsDumpText, IsDumpRefusal, OnDump, dump_too_long, bad_dump, clash, table, IsNetlistOf, OnNetlist, OnPrint, OnRefused, DumpAnswer, RequestAnswer, Answer, usage, bad_number, asked, AreRefused, IsPlain, Replies, IsFault, IsFaultRefusal, IsOfWords, unread_refusal, ReplyAnswer, IsAcceptedNetlist, IsNetlistFault, IsDumpFault, IsRestoreFault, IsWordsFault, OnFault, OnFaultRefusal, Says}
+use Rattle.restore_program.specs.Answer.{most_bytes, IsNetlistText, RefusedNetlist, netlist_too_long, bad_line, no_netlist, IsDumpText, IsDumpRefusal, OnDump, dump_too_long, bad_dump, clash, table, IsNetlistOf, OnNetlist, OnPrint, OnRefused, DumpAnswer, RequestAnswer, Answer, usage, bad_number, asked}
+use Rattle.restore_program.specs.Faults.{AreRefused, NeedsNoInput, TellsEnough, IsAcceptedNetlist, IsNetlistFault, IsDumpFault, IsRestoreFault, IsWordsFault}
+use Rattle.restore_program.specs.ReplyAnswers.{Replies, IsFault, IsFaultRefusal, IsOfWords, unread_refusal, ReplyAnswer, OnFault, OnFaultRefusal}
+use Rattle.restore_program.specs.Says.{Says}
+use Rattle.restore_program.specs.Status.{IsPlain}
 
 -- ---- from what is known to a dump
 
@@ -263,9 +267,11 @@ printed_plain c (replies.Refused (refusals.TraceTwice place item)) h = absurd h
 
 -- ---- what the words ask for is answered
 
-pub answers_asked : (told : Option Held) (words : List (List ℕ)) (request : Request) (reply : Reply) → Asks words request → IfSome told (λ held. Replies words (RequestAnswer held request) reply) → ReplyAnswer words told reply
-answers_asked None words request reply asks answer = tt
-answers_asked (Some held) words request reply asks answer = λ plain. asked request (text_of words reply) (status_of reply) asks (answer plain)
+pub answers_asked : (told : Option Held) (words : List (List ℕ)) (request : Request) (reply : Reply) → Asks words request → IfSome told (λ held. Replies words (RequestAnswer held request) reply)
+    → (NeedsNoInput words → (held : Held) → Replies words (RequestAnswer held request) reply) → ReplyAnswer words told reply
+answers_asked told words request reply asks answer alone held (inl is) plain =
+    asked request (text_of words reply) (status_of reply) asks (subst (λ t. IfSome t (λ h. Replies words (RequestAnswer h request) reply)) is answer plain)
+answers_asked told words request reply asks answer alone held (inr needs) plain = asked request (text_of words reply) (status_of reply) asks (alone needs held plain)
 
 -- words that are refused
 pub refused_as : (words : List (List ℕ)) (r : WordRefusal) (result : Result Settings WordRefusal) → result ≡ Err r → (result ≡ Err word_refusals.Usage → ¬ IsCommand words)
@@ -274,9 +280,8 @@ refused_as words word_refusals.Usage result is no_shape bad = no_shape is
 refused_as words (word_refusals.Number place) result is no_shape bad = bad place is
 
 pub answers_refused : (told : Option Held) (words : List (List ℕ)) (r : WordRefusal) → Means words (Err r) → ReplyAnswer words told (replies.Refused (refusals.Words r))
-answers_refused None words r means = tt
-answers_refused (Some held) words word_refusals.Usage means = λ _. usage means
-answers_refused (Some held) words (word_refusals.Number place) means = λ _. bad_number place means
+answers_refused told words word_refusals.Usage means held enough plain = usage means
+answers_refused told words (word_refusals.Number place) means held enough plain = bad_number place means
 
 pub refused_ready : (words : List (List ℕ)) (r : WordRefusal) → Means words (Err r) → WordIsThere words r
 refused_ready words word_refusals.Usage means = tt
@@ -346,9 +351,8 @@ dump_fault_of told shaky netlist dump c is parts.Dump h = (h, accepted told is) 
 
 -- ---- what a reply's text and status say
 
-plainly : (words : List (List ℕ)) (told : Option Held) (reply : Reply) → ReplyAnswer words told reply → IsPlain (status_of reply) → IfSome told (λ held. Answer words held (text_of words reply) (status_of reply))
-plainly words None reply answer plain = tt
-plainly words (Some held) reply answer plain = answer plain
+plainly : (words : List (List ℕ)) (told : Option Held) (reply : Reply) → ReplyAnswer words told reply → IsPlain (status_of reply) → (held : Held) → TellsEnough words told held → Answer words held (text_of words reply) (status_of reply)
+plainly words told reply answer plain held enough = answer held enough plain
 
 says_refused : (words : List (List ℕ)) (told : Option Held) (shaky : Option (List ℕ → Bool)) (r : Refusal) → ReplyAnswer words told (replies.Refused r) → OnFaultRefusal (IsWordsFault words told shaky) r
     → Says words told shaky (text_of words (replies.Refused r)) (refusal_status r)

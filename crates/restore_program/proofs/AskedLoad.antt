@@ -1,7 +1,7 @@
 -- What the words of a `load` ask for.
 use Rattle.std.proofs.Common.{◌<◌, ◌≤◌, ◌^◌, ℕ, List, map, ⊎_elim, arith}
 use Rattle.restore_program.specs.Words.{Loads}
-use Rattle.restore_program.specs.Answer.{AreRefused}
+use Rattle.restore_program.specs.Faults.{AreRefused}
 use Rattle.restore_program.proofs.CommandShapes.{load_command}
 use Rattle.restore_program.proofs.OneMeaning.{load_or_bad}
 

@@ -2,7 +2,7 @@
 use Rattle.std.proofs.Common.{◌≡◌, ◌<◌, ℕ, Bool, List, length, get_or, map, subst, ⊎_elim, arith}
 use Rattle.std.proofs.lemmas.List.{length-map}
 use Rattle.restore_program.specs.Words.{Restores}
-use Rattle.restore_program.specs.Answer.{AreRefused}
+use Rattle.restore_program.specs.Faults.{AreRefused}
 use Rattle.restore_program.proofs.AskedSimulation.{text_here}
 use Rattle.restore_program.proofs.CommandShapes.{restore_command}
 use Rattle.restore_program.proofs.OneMeaning.{restore_or_bad}

@@ -6,7 +6,7 @@ use Rattle.std.proofs.lemmas.List.{length-map}
 use Rattle.std.proofs.lemmas.Option.{same_Some, slice_get-map, slice_get_read, slice_get_within}
 use Rattle.restore_program.specs.TraceRefusals.{HasListAt}
 use Rattle.restore_program.specs.Words.{Gives, IsBadNumber, Simulates, simulate_rule, trace_rule}
-use Rattle.restore_program.specs.Answer.{AreRefused}
+use Rattle.restore_program.specs.Faults.{AreRefused}
 use Rattle.restore_program.specs.Requests.{Traces}
 use Rattle.restore_program.proofs.Gifts.{list_at}
 use Rattle.restore_program.proofs.CommandShapes.{simulate_command, simulate_is_one}

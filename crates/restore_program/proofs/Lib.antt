@@ -1,3 +1,4 @@
+pub mod AnswerExists
 pub mod Answering
 pub mod AskedLoad
 pub mod AskedRestore
@@ -5,12 +6,17 @@ pub mod AskedSimulation
 pub mod BadNumbers
 pub mod CommandShapes
 pub mod CommandWords
+pub mod DecidedNumbers
+pub mod DecidedShapes
+pub mod Deciding
 pub mod FewWords
 pub mod Gifts
 pub mod GivenKeys
 pub mod GivenValues
+pub mod Inputless
 pub mod LoadCounts
 pub mod Loads
+pub mod NamesDecided
 pub mod OneAnswer
 pub mod OneLoad
 pub mod OneMeaning
@@ -18,6 +24,7 @@ pub mod OneRequest
 pub mod OneRun
 pub mod OneTrace
 pub mod Outcomes
+pub mod Prepared
 pub mod SameTests
 pub mod SimulatedTraces
 pub mod Simulations
@@ -25,3 +32,5 @@ pub mod Sounding
 pub mod TraceNames
 pub mod TraceSignals
 pub mod WordPlaces
+pub mod WordStatuses
+pub mod WordsDecided

@@ -14,12 +14,12 @@ use Rattle.unroll.specs.Problem.{Unrolling, unrolled}
 use Rattle.known_planes.specs.Planes.{PlaneSet, has, lits}
 use Rattle.ratio.specs.Ratio.{Counts}
 use Rattle.report.proofs.CommentLine.{shown_once, shown_within}
-use Rattle.report.specs.Table.{known_count}
-use Rattle.restore_program.specs.Loading.{IsCounted}
+use Rattle.known_planes.specs.Counts.{known_count}
+use Rattle.restore_program.specs.Loading.{AreCountsOf}
 use Rattle.restore_program.proofs.Answering.{known_from}
 
 pub counted_by : (u : Unrolling) (rows : List Row) (base known : PlaneSet) (counts : Counts) → u.cycles ≡ 256 → ((l : Lit) → has u base l ≡ dump_has rows l) → SameLits (lits u known) (Closure (unrolled u) (lits u base))
-    → counts.known ≡ known_count u.circuit u.cycles (has u known) → counts.traced ≡ known_count u.circuit u.cycles (has u base) → IsCounted u.circuit rows counts
+    → counts.known ≡ known_count u.circuit u.cycles (has u known) → counts.traced ≡ known_count u.circuit u.cycles (has u base) → AreCountsOf u.circuit rows counts
 counted_by u rows base known counts long each closure known_is traced_is = record {
   known = has u known;
   is_known = subst (λ n. SameLits (lits u known) (Known (unrolled_over u.circuit n) rows)) long (known_from (unrolled u) rows (has u base) (lits u known) each closure);

@@ -4,22 +4,19 @@ use Rattle.std.specs.Prelude.{codes}
 use Rattle.std.proofs.lemmas.Option.{same_Some}
 use Rattle.sr_model.specs.declared.cells.Cell.{Cell}
 use Rattle.sr_model.specs.declared.cells.Lit.{Lit}
-use Rattle.sr_model.specs.Declaration.{Declaration}
 use Rattle.sr_model.specs.Dump.{dump_has}
-use Rattle.sr_model.specs.Closure.{CellLe, HasBoth, SameLits, level, lit, passing}
+use Rattle.sr_model.specs.Order.{CellLe}
+use Rattle.sr_model.specs.Closure.{HasBoth, SameLits, level, lit, passing}
 use Rattle.sr_model.proofs.ClosureLaws.{level_in_Closure}
 use Rattle.sr_outside.specs.Told.{Held}
 use Rattle.bench_reader.specs.Grammar as grammar
 use Rattle.bench_reader.proofs.BenchLaws as texts
 use Rattle.netlist.specs.Circuit.{Circuit, IsCircuit, circuit_of, unrolled_over}
 use Rattle.std.specs.Fmt.{decimal}
-use Rattle.std.specs.List.{All}
-use Rattle.std.proofs.lemmas.List.Elements.{All-map}
-use Rattle.netlist.specs.Numbering.{IsStatement}
 use Rattle.netlist.specs.Laws.{SameRefusal}
 use Rattle.netlist.proofs.Circuits.{statements_give_circuits}
 use Rattle.netlist.proofs.OneRefusal.{refusal_is_unique, netlists_are_not_refused}
-use Rattle.bench_reader.proofs.Statements.{read_are}
+use Rattle.bench_reader.proofs.Statements.{spells_statements}
 use Rattle.netlist.specs.Checks as checks
 use Rattle.netlist.specs.declared.checks.NetRefusal.{NetRefusal}
 use Rattle.netlist.specs.declared.checks.NetRefusal.TheVariants as net
@@ -64,9 +61,7 @@ same_netlist held name c d (bytes, there, text) (other, again, other_text) =
 
 pub is_circuit : (bytes : List ℕ) (c : Circuit) → IsNetlistText bytes c → IsCircuit c
 is_circuit bytes c a =
-    let are : All IsStatement (checks.without_lines a.stated) =
-    All-map IsStatement (λ (x : ℕ × Declaration). x.1) a.stated (read_are 1 (grammar.text_lines bytes) a.stated a.spells) in
-    subst IsCircuit (sym a.circuit) (statements_give_circuits (checks.without_lines a.stated) are a.netlist)
+    subst IsCircuit (sym a.circuit) (statements_give_circuits (checks.without_lines a.stated) (spells_statements bytes a.stated a.spells) a.netlist)
 
 -- a text of a netlist is not refused
 refused_or_read : (bytes : List ℕ) (c : Circuit) (text : List ℕ) (status : Status) → RefusedNetlist bytes text status → IsNetlistText bytes c → ⊥
@@ -146,14 +141,14 @@ same_cell a b (inr (same, low)) (inr (_, high)) =
 
 one_clash : (c : Circuit) (d : Recording) (a b : Cell) → IsClashOf c d a → IsClashOf c d b → a ≡ b
 one_clash c d a b (i, first) (j, second) =
-    let same : i ≡ j = omega (arith, first.first_level j b second.both, second.first_level i a first.both) in
-    same_cell a b (first.least_cell b (subst (λ n. HasBoth (level (unrolled_over c d.cycles) (passing (dump_has d.rows)) n) b) (sym same) second.both))
-    (second.least_cell a (subst (λ n. HasBoth (level (unrolled_over c d.cycles) (passing (dump_has d.rows)) n) a) same first.both))
+    let same : i ≡ j = omega (arith, first.first_level j b second.least_cell.both, second.first_level i a first.least_cell.both) in
+    same_cell a b (first.least_cell.least b (subst (λ n. HasBoth (level (unrolled_over c d.cycles) (passing (dump_has d.rows)) n) b) (sym same) second.least_cell.both))
+    (second.least_cell.least a (subst (λ n. HasBoth (level (unrolled_over c d.cycles) (passing (dump_has d.rows)) n) a) same first.least_cell.both))
 
 -- both literals of its cell are known
 pub clash_known : (c : Circuit) (d : Recording) (cell : Cell) → IsClashOf c d cell → HasBoth (KnownFrom c d) cell
 clash_known c d cell (i, first) =
-    let within = level_in_Closure (unrolled_over c d.cycles) (passing (dump_has d.rows)) i in (within (lit cell false) first.both.0, within (lit cell true) first.both.1)
+    let within = level_in_Closure (unrolled_over c d.cycles) (passing (dump_has d.rows)) i in (within (lit cell false) first.least_cell.both.0, within (lit cell true) first.least_cell.both.1)
 
 -- so there is no table
 no_table : (c : Circuit) (a b : Recording) (cell : Cell) (test : Lit → Bool) → a ≡ b → IsClashOf c a cell → SameLits (passing test) (KnownFrom c b) → ((x : Cell) → HasBoth (passing test) x → ⊥) → ⊥

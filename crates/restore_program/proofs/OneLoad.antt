@@ -1,7 +1,7 @@
 -- There is one line of a load netlist.
 use Rattle.std.proofs.Common.{◌≡◌, ◌/◌, ◌<◌, ℕ, false, List, length, max, sym, ap, subst, ◌∙◌}
 use Rattle.std.specs.List.{All}
-use Rattle.std.proofs.lemmas.List.Elements.{All-contains, All-take}
+use Rattle.std.proofs.lemmas.List.Elements.{All-take}
 use Rattle.sr_model.specs.declared.cells.Sig.{Sig}
 use Rattle.sr_model.specs.Dump.{Known, Row}
 use Rattle.netlist.specs.Circuit.{Circuit, IsCircuit, unrolled_over}
@@ -12,9 +12,8 @@ use Rattle.cycle_sim.specs.Load.{IsLoadSize, load_statements}
 use Rattle.cycle_sim.proofs.LoadNets.{all-stated, is-netlist}
 use Rattle.report.proofs.CommentLine.{shown_within}
 use Rattle.report.specs.Load.{load_line}
-use Rattle.report.specs.Table.{known_count}
-use Rattle.restore_program.specs.declared.reply.Loaded.{Loaded}
-use Rattle.restore_program.specs.Loading.{IsCounted, IsLoadText, IsLoadTrace, IsLoaded, load_circuit, load_cycles, load_traced}
+use Rattle.known_planes.specs.Counts.{known_count}
+use Rattle.restore_program.specs.Loading.{AreCountsOf, IsLoadText, IsLoadTrace, load_circuit, load_cycles, load_traced}
 use Rattle.restore_program.proofs.OneRun.{one_trace}
 use Rattle.restore_program.proofs.SameTests.{same_test}
 
@@ -25,23 +24,18 @@ pub traced_within : (c : Circuit) → All (λ (s : Sig). s.0 < length c.drivers)
 traced_within c = All-take (λ (s : Sig). s.0 < length c.drivers) (max 1 (length (flip_flops c.drivers) / 4)) (flip_flops c.drivers) (shown_within c false)
 
 one_load_trace : (c : Circuit) (number : ℕ) (rows others : List Row) → IsCircuit c → IsLoadTrace c number rows → IsLoadTrace c number others → rows ≡ others
-one_load_trace c number rows others is (a, v, first, sim, e) (b, w, second, sim_too, e_too) =
-    e ∙ one_trace c number load_cycles a b v w (load_traced c) is first second sim sim_too (λ s h. All-contains (λ (s : Sig). s.0 < length c.drivers) (load_traced c) s (traced_within c) h) ∙ sym e_too
+one_load_trace c number rows others is (v, first, e) (w, second, e_too) = e ∙ one_trace c number load_cycles v w (load_traced c) is first second (traced_within c) ∙ sym e_too
 
-one_count : (c : Circuit) (rows : List Row) (a b : Counts) → IsCounted c rows a → IsCounted c rows b → a ≡ b
+one_count : (c : Circuit) (rows : List Row) (a b : Counts) → AreCountsOf c rows a → AreCountsOf c rows b → a ≡ b
 one_count c rows a b first second =
     let tests = same_test (Known (unrolled_over c load_cycles) rows) first.known second.known first.is_known second.is_known in
     let known : a.known ≡ b.known = first.known_is ∙ ap (known_count c load_cycles) tests ∙ sym second.known_is in
     let traced : a.traced ≡ b.traced = first.traced_is ∙ sym second.traced_is in
     ap (λ n. record { known = n; traced = a.traced }) known ∙ ap (λ n. record { known = b.known; traced = n }) traced
 
-one_loaded : (number signals : ℕ) (a b : Loaded) → IsLoaded number signals a → IsLoaded number signals b → load_line a.number a.signals a.flip_flops a.ratio ≡ load_line b.number b.signals b.flip_flops b.ratio
-one_loaded number signals a b first second =
+pub one_load_text : (number signals : ℕ) (text other : List ℕ) → IsLoadText number signals text → IsLoadText number signals other → text ≡ other
+one_load_text number signals text other first second =
     let c : Circuit = load_circuit number signals in
     let rows = one_load_trace c number first.rows second.rows (load_is_circuit number signals first.size) first.trace second.trace in
-    let counts : a.ratio ≡ b.ratio = one_count c second.rows a.ratio b.ratio (subst (λ rs. IsCounted c rs a.ratio) rows first.counted) second.counted in
-    ap (λ n. load_line n a.signals a.flip_flops a.ratio) (first.number_is ∙ sym second.number_is) ∙ ap (λ n. load_line b.number n a.flip_flops a.ratio) (first.signals_is ∙ sym second.signals_is)
-    ∙ ap (λ n. load_line b.number b.signals n a.ratio) (first.flip_flops_is ∙ sym second.flip_flops_is) ∙ ap (load_line b.number b.signals b.flip_flops) counts
-
-pub one_load_text : (number signals : ℕ) (text other : List ℕ) → IsLoadText number signals text → IsLoadText number signals other → text ≡ other
-one_load_text number signals text other (a, first, e) (b, second, e_too) = e ∙ one_loaded number signals a b first second ∙ sym e_too
+    let counts : first.counts ≡ second.counts = one_count c second.rows first.counts second.counts (subst (λ rs. AreCountsOf c rs first.counts) rows first.counted) second.counted in
+    first.text_is ∙ ap (load_line number signals (length (flip_flops c.drivers))) counts ∙ sym second.text_is

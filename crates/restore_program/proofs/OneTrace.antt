@@ -1,6 +1,6 @@
 -- A list of names has one trace at most.
 use Rattle.std.proofs.Common.{ℕ, ◌≡◌, ◌<◌, ◌≤◌, ◌⊎◌, ◌+◌, Option, Some, List, [], ◌∷◌, ◌++◌, length, map, get_or, ⊎_elim, inl, inr, arith, refl, sym, ap, subst, ◌∙◌}
-use Rattle.std.specs.List.{Contains, slice_get}
+use Rattle.std.specs.List.{All, Contains, slice_get}
 use Rattle.std.proofs.Math.Seq.{get_or-append_seam}
 use Rattle.std.proofs.lemmas.List.{get_or_append_left, length-append}
 use Rattle.std.proofs.lemmas.List.Elements.{Contains-append_right}
@@ -15,6 +15,7 @@ use Rattle.restore_program.specs.declared.status.Status.TheVariants as statuses
 use Rattle.report.specs.Refusals.{unknown_trace_line, trace_twice_line}
 use Rattle.restore_program.specs.Tracing.{AreNamed, IsTraceText, IsTwiceFirst, IsUnknownFirst, OnTrace, StandsNext, many_cells, name_twice, names_in, traced, unknown_name}
 use Rattle.restore_program.proofs.OneRun.{one_trace}
+use Rattle.restore_program.proofs.TraceSignals.{signals_within}
 
 -- ---- the signals of names
 
@@ -31,16 +32,6 @@ module _ (c : Circuit) where
       (λ (here : first ≡ name). let is : name_of_signal sig ≡ Some first = cc in (sig, is ∙ ap Some here))
       (λ (later : Contains names name). let rest : map name_of_signal sigs ≡ map Some names = cc in its-signal names sigs rest name later)
       (Contains-cases first names name h)
-
-  -- each of the signals has a name
-  has-name : (names : List (List ℕ)) (sigs : List Sig) → map name_of_signal sigs ≡ map Some names → (sig : Sig) → Contains sigs sig → (name : List ℕ) × (name_of_signal sig ≡ Some name)
-  has-name names [] same sig h = absurd (not_in_nil sig h)
-  has-name [] (first ∷ sigs) same sig h = absurd (cc)
-  has-name (name ∷ names) (first ∷ sigs) same sig h =
-      ⊎_elim
-      (λ (here : first ≡ sig). let is : name_of_signal first ≡ Some name = cc in (name, ap name_of_signal (sym here) ∙ is))
-      (λ (later : Contains sigs sig). let rest : map name_of_signal sigs ≡ map Some names = cc in has-name names sigs rest sig later)
-      (Contains-cases first sigs sig h)
 
   module _ (is : IsCircuit c) where
     one-signal : (a b : Sig) (name : List ℕ) → name_of_signal a ≡ Some name → name_of_signal b ≡ Some name → a ≡ b
@@ -61,11 +52,6 @@ module _ (c : Circuit) where
         let here : a ≡ b = one-signal a b name is_a is_b in
         let later : sigs ≡ others = same-signals names sigs others rest rest_too in
         cc
-
-    signal-within : (names : List (List ℕ)) (sigs : List Sig) → AreNamed c names sigs → (sig : Sig) → Contains sigs sig → sig.0 < length c.drivers
-    signal-within names sigs named sig h =
-        let name : (name : List ℕ) × (name_of_signal sig ≡ Some name) = has-name names sigs named.each sig h in
-        subst (λ n. sig.0 < n) is.one_name_each (slice_get_within c.names sig.0 name.0 name.1)
 
   -- ---- the first wrong name
 
@@ -149,16 +135,16 @@ module _ (c : Circuit) (names : List (List ℕ)) where
 not-many : (n : ℕ) → 4194304 < n → n ≤ 4194304 → ⊥
 not-many n many few = omega (arith, many, few)
 
-one-text : (c : Circuit) (seed cycles : ℕ) (sigs : List Sig) (text other : List ℕ) → IsCircuit c → ((s : Sig) → Contains sigs s → s.0 < length c.drivers) → IsTraceText c seed cycles sigs text → IsTraceText c seed cycles sigs other
+one-text : (c : Circuit) (seed cycles : ℕ) (sigs : List Sig) (text other : List ℕ) → IsCircuit c → All (λ (s : Sig). s.0 < length c.drivers) sigs → IsTraceText c seed cycles sigs text → IsTraceText c seed cycles sigs other
     → text ≡ other
-one-text c seed cycles sigs text other is within (a, v, first, sim, e) (b, w, second, sim_too, e_too) =
-    e ∙ ap (λ rows. printed c.names (record { cycles = cycles; rows = rows })) (one_trace c seed cycles a b v w sigs is first second sim sim_too within) ∙ sym e_too
+one-text c seed cycles sigs text other is within (v, first, e) (w, second, e_too) =
+    e ∙ ap (λ rows. printed c.names (record { cycles = cycles; rows = rows })) (one_trace c seed cycles v w sigs is first second within) ∙ sym e_too
 
 same-text : (c : Circuit) (seed cycles : ℕ) (names : List (List ℕ)) (sigs others : List Sig) (text other : List ℕ) → IsCircuit c → AreNamed c names sigs → AreNamed c names others → IsTraceText c seed cycles sigs text
     → IsTraceText c seed cycles others other → text ≡ other
 same-text c seed cycles names sigs others text other is named named_too first second =
     let same : sigs ≡ others = same-signals c is names sigs others named.each named_too.each in
-    one-text c seed cycles others text other is (signal-within c is names others named_too) (subst (λ xs. IsTraceText c seed cycles xs text) same first) second
+    one-text c seed cycles others text other is (signals_within c is names others named_too) (subst (λ xs. IsTraceText c seed cycles xs text) same first) second
 
 pub one_on_trace : (c : Circuit) (cycles seed : ℕ) (list text other : List ℕ) (status last : Status) → IsCircuit c → OnTrace c cycles seed list text status → OnTrace c cycles seed list other last → (text ≡ other) × (status ≡ last)
 one_on_trace c cycles seed list text other status last is (unknown_name x unknown) (unknown_name y unknown_too) = (ap unknown_trace_line (one-unknown c (names_in list) x y unknown unknown_too), refl)

@@ -8,7 +8,7 @@ use Rattle.sr_model.specs.Closure.{Closure, HasBoth, IsClash, SameLits, passing}
 use Rattle.sr_model.specs.Dump.{Row, dump_has}
 use Rattle.unroll.specs.Problem.{Unrolling, signals_in, unrolled}
 use Rattle.known_planes.specs.Planes.{PlaneSet, IsOf, has, lits}
-use Rattle.report.specs.Table.{known_count}
+use Rattle.known_planes.specs.Counts.{known_count}
 use Rattle.restore_program.specs.Outcome.{IsFirstClash, IsKnown, IsTraced}
 use Rattle.restore_program.proofs.Answering.{known_from}
 

@@ -15,7 +15,9 @@ use Rattle.restore_program.specs.declared.reply.Reply.{Reply}
 use Rattle.restore_program.specs.Reply.{text_of, status_of}
 use Rattle.restore_program.specs.Requests.{restoration, simulation, printing, loading}
 use Rattle.restore_program.specs.Words.{Restores, IsRestore}
-use Rattle.restore_program.specs.Answer.{IsPlain, ReplyAnswer, Answer, usage, bad_number, asked, netlist_too_long, bad_line, no_netlist, OnNetlist, OnRefused, IsNetlistOf, DumpAnswer, OnDump, dump_too_long, bad_dump, clash, table, traced_count}
+use Rattle.restore_program.specs.Answer.{Answer, usage, bad_number, asked, netlist_too_long, bad_line, no_netlist, OnNetlist, OnRefused, IsNetlistOf, DumpAnswer, OnDump, dump_too_long, bad_dump, clash, table, traced_count}
+use Rattle.restore_program.specs.ReplyAnswers.{ReplyAnswer}
+use Rattle.restore_program.specs.Status.{IsPlain}
 use Rattle.restore_program.specs.Sound.{IsAccepted, IsDumpAgain, IsPrintable, IsSoundTable, IsTableOrClash, IsTraceable, NoneMatches}
 use Rattle.restore_program.specs.Tracing.{OnTrace, unknown_name, name_twice, many_cells, traced}
 use Rattle.restore_program.proofs.OneAnswer.{accepted_is_answered, answer_to, clash_known, is_circuit, printable_is_printed, traceable_is_traced}
@@ -104,24 +106,24 @@ clash_answer words held text status (asked (loading number signals) t k asks (lo
 module _ (words : List (List ℕ)) (reply : Reply) where
   pub sound_reply : (told : Option Held) → IsRestore words → ReplyAnswer words told reply → status_of reply ≡ statuses.Done → IfSome told (IsSoundTable words (text_of words reply))
   sound_reply None asks answer e = tt
-  sound_reply (Some held) asks answer e = (sound_answer words held (text_of words reply) (status_of reply) asks (answer (subst IsPlain (sym e) tt)) e).0
+  sound_reply (Some held) asks answer e = (sound_answer words held (text_of words reply) (status_of reply) asks (answer held (inl refl) (subst IsPlain (sym e) tt)) e).0
 
   pub again_reply : (told : Option Held) → IsRestore words → ReplyAnswer words told reply → status_of reply ≡ statuses.Done → IfSome told (IsDumpAgain words (text_of words reply))
   again_reply None asks answer e = tt
-  again_reply (Some held) asks answer e = (sound_answer words held (text_of words reply) (status_of reply) asks (answer (subst IsPlain (sym e) tt)) e).1
+  again_reply (Some held) asks answer e = (sound_answer words held (text_of words reply) (status_of reply) asks (answer held (inl refl) (subst IsPlain (sym e) tt)) e).1
 
   pub clash_reply : (told : Option Held) → ReplyAnswer words told reply → status_of reply ≡ statuses.Contradiction → IfSome told (NoneMatches words)
   clash_reply None answer e = tt
-  clash_reply (Some held) answer e = clash_answer words held (text_of words reply) (status_of reply) (answer (subst IsPlain (sym e) tt)) e
+  clash_reply (Some held) answer e = clash_answer words held (text_of words reply) (status_of reply) (answer held (inl refl) (subst IsPlain (sym e) tt)) e
 
   pub finishes : (told : Option Held) → ReplyAnswer words told reply → IfSome told (λ held. IsAccepted words held → IsPlain (status_of reply) → IsTableOrClash (status_of reply))
   finishes None answer = tt
-  finishes (Some held) answer = λ (c, d, all, a) plain. accepted_is_answered words held c d all a (text_of words reply) (status_of reply) (answer plain)
+  finishes (Some held) answer = λ (c, d, all, a) plain. accepted_is_answered words held c d all a (text_of words reply) (status_of reply) (answer held (inl refl) plain)
 
   pub prints : (told : Option Held) → ReplyAnswer words told reply → IfSome told (λ held. IsPrintable words held → IsPlain (status_of reply) → status_of reply ≡ statuses.Done)
   prints None answer = tt
-  prints (Some held) answer = λ printable plain. printable_is_printed words held printable (text_of words reply) (status_of reply) (answer plain)
+  prints (Some held) answer = λ printable plain. printable_is_printed words held printable (text_of words reply) (status_of reply) (answer held (inl refl) plain)
 
   pub traces : (told : Option Held) → ReplyAnswer words told reply → IfSome told (λ held. IsTraceable words held → IsPlain (status_of reply) → status_of reply ≡ statuses.Done)
   traces None answer = tt
-  traces (Some held) answer = λ traceable plain. traceable_is_traced words held traceable (text_of words reply) (status_of reply) (answer plain)
+  traces (Some held) answer = λ traceable plain. traceable_is_traced words held traceable (text_of words reply) (status_of reply) (answer held (inl refl) plain)

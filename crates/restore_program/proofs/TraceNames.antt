@@ -27,7 +27,7 @@ name-at c names sigs named k d e h =
     ∙ get_or-map Some names k e (Some e) (subst (λ m. k < m) (size c names sigs named) h)
 
 module _ (c : Circuit) (is : IsCircuit c) (names : List (List ℕ)) (n : ℕ) (name : List ℕ) (within : n < length names) (at : name ≡ get_or names n name) (sigs : List Sig) (named : AreNamed c (take n names) sigs) where
-  next : StandsNext c names name (take n names)
+  pub next : StandsNext c names name (take n names)
   next = record {
     sigs = sigs;
     named = named;
@@ -45,7 +45,7 @@ module _ (c : Circuit) (is : IsCircuit c) (names : List (List ℕ)) (n : ℕ) (n
 
   module _ (s : Sig) (has : slice_get c.names s.0 ≡ Some name) where
     -- its signal stands among those before it
-    its-name : Contains sigs s → Contains (take n names) name
+    pub its-name : Contains sigs s → Contains (take n names) name
     its-name (k, h, e) =
         let there : k < length (take n names) = subst (λ m. k < m) (size c (take n names) sigs named) h in
         (k, there, same_Some _ _ (sym (name-at c (take n names) sigs named k s name h) ∙ ap (λ (x : Sig). slice_get c.names x.0) e ∙ has))

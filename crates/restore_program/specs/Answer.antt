@@ -1,13 +1,11 @@
 -- What a run is to write, and how it is to end, by the words and the bytes that the inputs hold.
-use Rattle.std.specs.Prelude.{ℕ, ◌≡◌, ◌≢◌, ◌<◌, ◌≤◌, ◌⊎◌, ⊤, Bool, List, length, Option, Some, IfSome}
+use Rattle.std.specs.Prelude.{ℕ, ◌≡◌, ◌≢◌, ◌<◌, ◌≤◌, ◌⊎◌, Bool, List, length, Some}
 use Rattle.sr_model.specs.declared.cells.Cell.{Cell}
 use Rattle.sr_model.specs.declared.cells.Lit.{Lit}
 use Rattle.sr_model.specs.Declaration.{Declaration}
 use Rattle.sr_model.specs.Closure.{HasBoth, IsClash, SameLits, passing}
 use Rattle.sr_model.specs.Dump.{Known, dump_has}
-use Rattle.sr_outside.specs.Told.{Held, IsSteady}
-use Rattle.sr_outside.specs.declared.whole.ReadRefusal.{ReadRefusal}
-use Rattle.sr_outside.specs.declared.whole.ReadRefusal.TheVariants as reads
+use Rattle.sr_outside.specs.Told.{Held}
 use Rattle.bench_reader.specs.declared.reader.BenchRefusal.{BenchRefusal}
 use Rattle.bench_reader.specs.declared.reader.BenchRefusal.TheVariants as bench
 use Rattle.bench_reader.specs.Grammar as grammar
@@ -22,21 +20,16 @@ use Rattle.dump_reader.specs.declared.refusal.DumpRefusal.TheVariants as dumps
 use Rattle.dump_reader.specs.Recording.{Recording}
 use Rattle.dump_reader.specs.Grammar as dump_grammar
 use Rattle.dump_reader.specs.Refusal as dump_refusal
-use Rattle.report.specs.declared.refusal.Part.{Part}
 use Rattle.report.specs.declared.refusal.Part.TheVariants as parts
-use Rattle.report.specs.declared.refusal.Refusal.{Refusal}
-use Rattle.report.specs.declared.refusal.Refusal.TheVariants as refusals
 use Rattle.report.specs.declared.refusal.WordRefusal.TheVariants as word_refusals
 use Rattle.report.specs.Clash.{clash_line}
-use Rattle.report.specs.InputRefusals.{bench_line, dump_line, fault_line, net_line, no_memory_line, too_long_line}
+use Rattle.report.specs.InputRefusals.{bench_line, dump_line, net_line, too_long_line}
 use Rattle.report.specs.Refusals.{word_line}
-use Rattle.report.specs.Table.{known_count, table_text}
-use Rattle.restore_program.specs.declared.reply.Reply.{Reply}
-use Rattle.restore_program.specs.declared.reply.Reply.TheVariants as replies
+use Rattle.known_planes.specs.Counts.{known_count}
+use Rattle.report.specs.Table.{table_text}
 use Rattle.restore_program.specs.declared.status.Status.{Status}
 use Rattle.restore_program.specs.declared.status.Status.TheVariants as statuses
 use Rattle.restore_program.specs.Loading.{IsLoadText}
-use Rattle.restore_program.specs.Reply.{text_of, status_of}
 use Rattle.restore_program.specs.Requests.{Request, Asks, restoration, simulation, printing, loading}
 use Rattle.restore_program.specs.Words.{IsBadNumber, IsCommand}
 use Rattle.restore_program.specs.Tracing.{OnTrace}
@@ -132,107 +125,3 @@ pub data Answer (words : List (List ℕ)) (held : Held) : List ℕ → Status �
   usage : ¬ IsCommand words → Answer words held (word_line words word_refusals.Usage) statuses.Words
   bad_number : (place : ℕ) → IsBadNumber words place → Answer words held (word_line words (word_refusals.Number place)) statuses.Words
   asked : (request : Request) (text : List ℕ) (status : Status) → Asks words request → RequestAnswer held request text status → Answer words held text status
-
--- ---- replies
-
--- neither a fault nor want of memory
-abbrev pub IsPlain : Status → Type 0
-IsPlain statuses.ReadFault = ⊥
-IsPlain statuses.WriteFault = ⊥
-IsPlain statuses.NoMemory = ⊥
-IsPlain _ = ⊤
-
--- on these words, the reply's text and status are an answer, unless an input was not read or memory was refused
-abbrev pub Replies : List (List ℕ) → (List ℕ → Status → Type 0) → Reply → Type 0
-Replies words P reply = IsPlain (status_of reply) → P (text_of words reply) (status_of reply)
-
--- the refusal is about the words
-abbrev pub IsWordsRefusal : Refusal → Type 0
-IsWordsRefusal (refusals.Words refusal) = ⊤
-IsWordsRefusal (refusals.TraceUnknown place item) = ⊤
-IsWordsRefusal (refusals.TraceTwice place item) = ⊤
-IsWordsRefusal _ = ⊥
-
-abbrev pub IsOfWords : Reply → Type 0
-IsOfWords (replies.Refused refusal) = IsWordsRefusal refusal
-IsOfWords _ = ⊥
-
--- no input is started on these words
-abbrev pub AreRefused : List (List ℕ) → Type 0
-AreRefused words = ¬ IsCommand words ⊎ ((place : ℕ) × IsBadNumber words place)
-
--- an input was not read
-abbrev pub IsFaultRefusal : Refusal → Type 0
-IsFaultRefusal (refusals.Fault part) = ⊤
-IsFaultRefusal _ = ⊥
-
-abbrev pub IsFault : Reply → Type 0
-IsFault (replies.Refused refusal) = IsFaultRefusal refusal
-IsFault _ = ⊥
-
--- what is written of an input that was not read
-abbrev pub unread_refusal : Part → ReadRefusal → Refusal
-unread_refusal part reads.Fault = refusals.Fault part
-unread_refusal part reads.TooLong = refusals.TooLong part
-unread_refusal part reads.NoMemory = refusals.NoMemory
-
--- what the words ask for is answered
-abbrev pub ReplyAnswer : List (List ℕ) → Option Held → Reply → Type 0
-ReplyAnswer words told reply = IfSome told (λ held. Replies words (Answer words held) reply)
-
--- ---- faults
-
--- it is told that the files of what is asked for are held and that no call on them is to fail
-abbrev pub AreSteadyFor : Option Held → Option (List ℕ → Bool) → Request → Type 0
-AreSteadyFor told shaky (restoration netlist dump all) = IsSteady told shaky netlist × IsSteady told shaky dump
-AreSteadyFor told shaky (simulation netlist cycles seed list) = IsSteady told shaky netlist
-AreSteadyFor told shaky (printing netlist) = IsSteady told shaky netlist
-AreSteadyFor told shaky (loading number signals) = ⊤
-
--- and so of all that the words may ask for
-abbrev pub AreSteady : Option Held → Option (List ℕ → Bool) → List (List ℕ) → Type 0
-AreSteady told shaky words = (request : Request) → Asks words request → AreSteadyFor told shaky request
-
--- the netlist of this name is held and accepted
-abbrev pub IsAcceptedNetlist : List ℕ → Held → Type 0
-IsAcceptedNetlist netlist held = (c : Circuit) × IsNetlistOf held netlist c
-
--- a fault is one of the netlist, and only where it is not told that no call on its name is to fail
-abbrev pub IsNetlistFault : Option Held → Option (List ℕ → Bool) → List ℕ → Part → Type 0
-IsNetlistFault told shaky netlist parts.Netlist = ¬ IsSteady told shaky netlist
-IsNetlistFault told shaky netlist parts.Dump = ⊥
-
-abbrev pub IsDumpFault : Option Held → Option (List ℕ → Bool) → List ℕ → Part → Type 0
-IsDumpFault told shaky dump parts.Netlist = ⊥
-IsDumpFault told shaky dump parts.Dump = ¬ IsSteady told shaky dump
-
--- A fault can be one of this part: only where it is not told that no call on its name is to fail, and of the dump only where the netlist is accepted.
-abbrev pub IsRestoreFault : Option Held → Option (List ℕ → Bool) → List ℕ → List ℕ → Part → Type 0
-IsRestoreFault told shaky netlist dump parts.Netlist = ¬ IsSteady told shaky netlist
-IsRestoreFault told shaky netlist dump parts.Dump = (¬ IsSteady told shaky dump) × IfSome told (IsAcceptedNetlist netlist)
-
--- on what is asked for
-abbrev pub IsRequestFault : Option Held → Option (List ℕ → Bool) → Request → Part → Type 0
-IsRequestFault told shaky (restoration netlist dump all) = IsRestoreFault told shaky netlist dump
-IsRequestFault told shaky (simulation netlist cycles seed list) = IsNetlistFault told shaky netlist
-IsRequestFault told shaky (printing netlist) = IsNetlistFault told shaky netlist
-IsRequestFault told shaky (loading number signals) = λ part. ⊥
-
-abbrev pub IsWordsFault : List (List ℕ) → Option Held → Option (List ℕ → Bool) → Part → Type 0
-IsWordsFault words told shaky part = (request : Request) × Asks words request × IsRequestFault told shaky request part
-
--- where the refusal says that a part was not read, this holds of the part
-abbrev pub OnFaultRefusal : (Part → Type 0) → Refusal → Type 0
-OnFaultRefusal P (refusals.Fault part) = P part
-OnFaultRefusal P _ = ⊤
-
-abbrev pub OnFault : (Part → Type 0) → Reply → Type 0
-OnFault P (replies.Refused refusal) = OnFaultRefusal P refusal
-OnFault P _ = ⊤
-
--- the text that is written with a status, by what the inputs tell
-abbrev pub Says : List (List ℕ) → Option Held → Option (List ℕ → Bool) → List ℕ → Status → Type 0
-Says words told shaky text statuses.ReadFault = (part : Part) × (text ≡ fault_line part) × IsWordsFault words told shaky part
-Says words told shaky text statuses.NoMemory = text ≡ no_memory_line
-Says words told shaky text statuses.WriteFault = ⊥
-Says words told shaky text status = IfSome told (λ held. Answer words held text status)

@@ -8,13 +8,11 @@ use Rattle.sr_model.specs.Netlist.{Valuation}
 use Rattle.netlist.specs.Circuit.{Circuit, circuit_of, unrolled_over}
 use Rattle.netlist.specs.Wiring.{flip_flops}
 use Rattle.ratio.specs.Ratio.{Counts}
-use Rattle.cycle_sim.specs.BitTable.{BitTable}
 use Rattle.cycle_sim.specs.Load.{IsLoadSize, load_statements}
-use Rattle.cycle_sim.specs.Simulation.{IsSimulated, traced_rows}
+use Rattle.cycle_sim.specs.Simulation.{traced_rows}
 use Rattle.report.specs.Load.{load_line}
-use Rattle.report.specs.Table.{known_count}
-use Rattle.restore_program.specs.declared.reply.Loaded.{Loaded}
-use Rattle.restore_program.specs.Tracing.{IsStimulus}
+use Rattle.known_planes.specs.Counts.{known_count}
+use Rattle.restore_program.specs.Tracing.{IsDrawnRun}
 
 -- the netlist
 abbrev pub load_circuit : ℕ → ℕ → Circuit
@@ -28,31 +26,22 @@ load_cycles = 256
 abbrev pub load_traced : Circuit → List Sig
 load_traced c = take (max 1 (length (flip_flops c.drivers) / 4)) (flip_flops c.drivers)
 
--- the rows are the trace of these flip-flops in the simulated execution whose stimulus is drawn from the number
+-- the rows are the trace of these flip-flops in the run that is drawn from the number
 abbrev pub IsLoadTrace : Circuit → ℕ → List Row → Type 0
-IsLoadTrace c number rows = (stimulus : BitTable) × (v : Valuation) × IsStimulus c number load_cycles stimulus × IsSimulated c stimulus v × (rows ≡ traced_rows v load_cycles (load_traced c))
+IsLoadTrace c number rows = (v : Valuation) × IsDrawnRun c number load_cycles v × (rows ≡ traced_rows v load_cycles (load_traced c))
 
 -- how many flip-flop cells these rows give, and how many are known from them
-pub record IsCounted (c : Circuit) (rows : List Row) (counts : Counts) : Type 0 where
+pub record AreCountsOf (c : Circuit) (rows : List Row) (counts : Counts) : Type 0 where
   pub known : Lit → Bool
   pub is_known : SameLits (passing known) (Known (unrolled_over c load_cycles) rows)
   pub known_is : counts.known ≡ known_count c load_cycles known
   pub traced_is : counts.traced ≡ known_count c load_cycles (dump_has rows)
 
--- the size is allowed, and these are the counts of a trace of the netlist
-pub record IsLoaded (number signals : ℕ) (loaded : Loaded) : Type 0 where
+-- the size is allowed, and the text is the line of the netlist's flip-flops and of what is known from a trace of it
+pub record IsLoadText (number signals : ℕ) (text : List ℕ) : Type 0 where
   pub size : IsLoadSize signals
-  pub number_is : loaded.number ≡ number
-  pub signals_is : loaded.signals ≡ signals
-  pub flip_flops_is : loaded.flip_flops ≡ length (flip_flops (load_circuit number signals).drivers)
   pub rows : List Row
   pub trace : IsLoadTrace (load_circuit number signals) number rows
-  pub counted : IsCounted (load_circuit number signals) rows loaded.ratio
-
--- the line of a result of `load`
-abbrev pub loaded_line : Loaded → List ℕ
-loaded_line loaded = load_line loaded.number loaded.signals loaded.flip_flops loaded.ratio
-
--- the text is that line
-abbrev pub IsLoadText : ℕ → ℕ → List ℕ → Type 0
-IsLoadText number signals text = (loaded : Loaded) × IsLoaded number signals loaded × (text ≡ loaded_line loaded)
+  pub counts : Counts
+  pub counted : AreCountsOf (load_circuit number signals) rows counts
+  pub text_is : text ≡ load_line number signals (length (flip_flops (load_circuit number signals).drivers)) counts

@@ -5,7 +5,7 @@ use Rattle.sr_model.specs.Closure.{HasBoth, IsClash, SameLits, passing}
 use Rattle.sr_model.specs.Dump.{Known, Row, dump_has}
 use Rattle.unroll.specs.Problem.{Unrolling, signals_in, unrolled}
 use Rattle.known_planes.specs.Planes.{PlaneSet, IsOf, lits}
-use Rattle.report.specs.Table.{known_count}
+use Rattle.known_planes.specs.Counts.{known_count}
 use Rattle.restore_program.specs.declared.restore.Outcome.{Outcome}
 use Rattle.restore_program.specs.declared.restore.Outcome.TheVariants as outcomes
 

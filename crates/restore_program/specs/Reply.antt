@@ -1,5 +1,5 @@
 -- The text and the status of each reply.
-use Rattle.std.specs.Prelude.{ℕ, ◌<◌, ◌≤◌, ⊤, List, length}
+use Rattle.std.specs.Prelude.{ℕ, ◌<◌, ◌≤◌, ⊤, List, Option, IsSome, length}
 use Rattle.sr_model.specs.declared.cells.Cell.{Cell}
 use Rattle.sr_model.specs.Closure.{HasBoth, passing}
 use Rattle.bench_reader.specs.declared.reader.BenchRefusal.{BenchRefusal}
@@ -19,7 +19,8 @@ use Rattle.report.specs.declared.refusal.Refusal.TheVariants as refusals
 use Rattle.report.specs.Clash.{clash_line}
 use Rattle.report.specs.Refusals.{AreThere, refusal_line}
 use Rattle.report.specs.Table.{table_text}
-use Rattle.restore_program.specs.Loading.{loaded_line}
+use Rattle.report.specs.Load.{load_line}
+use Rattle.restore_program.specs.declared.reply.Loaded.{Loaded}
 use Rattle.restore_program.specs.declared.reply.Table.{Table}
 use Rattle.restore_program.specs.declared.reply.Reply.{Reply}
 use Rattle.restore_program.specs.declared.reply.Reply.TheVariants as replies
@@ -45,6 +46,10 @@ IsReady words (replies.Known table) = IsTable table
 IsReady words (replies.Clash netlist cell) = cell.sig.0 < length netlist.drivers
 IsReady words (replies.Text text) = ⊤
 IsReady words (replies.Load loaded) = ⊤
+
+-- the line of a load netlist
+abbrev pub loaded_line : Loaded → List ℕ
+loaded_line loaded = load_line loaded.number loaded.signals loaded.flip_flops loaded.ratio
 
 -- the text that is written of a reply on these words
 abbrev pub text_of : List (List ℕ) → Reply → List ℕ
@@ -89,3 +94,12 @@ status_of (replies.Known table) = statuses.Done
 status_of (replies.Clash netlist cell) = statuses.Contradiction
 status_of (replies.Text text) = statuses.Done
 status_of (replies.Load loaded) = statuses.Done
+
+-- the reply is a table
+abbrev pub IsTableReply : Reply → Type 0
+IsTableReply (replies.Known table) = ⊤
+IsTableReply _ = ⊥
+
+-- the buffer that writing a table takes is there
+abbrev pub HasBuffer : {B : Type 0} → Reply → Option B → Type 0
+HasBuffer reply buf = IsTableReply reply → IsSome buf

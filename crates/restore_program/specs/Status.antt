@@ -1,5 +1,5 @@
--- The exit codes.
-use Rattle.std.specs.Prelude.{ℕ}
+-- How a run ends: the exit codes, and what is neither a fault nor want of memory.
+use Rattle.std.specs.Prelude.{ℕ, ⊤}
 use Rattle.restore_program.specs.declared.status.Status.{Status}
 use Rattle.restore_program.specs.declared.status.Status.TheVariants.{Done, Contradiction, Words, Netlist, Dump, ReadFault, WriteFault, NoMemory, Certificate}
 
@@ -13,3 +13,10 @@ code_of ReadFault = 5
 code_of WriteFault = 6
 code_of NoMemory = 7
 code_of Certificate = 8
+
+-- neither a fault nor want of memory
+abbrev pub IsPlain : Status → Type 0
+IsPlain ReadFault = ⊥
+IsPlain WriteFault = ⊥
+IsPlain NoMemory = ⊥
+IsPlain _ = ⊤

@@ -6,8 +6,7 @@ use Rattle.sr_model.specs.Netlist.{Valuation}
 use Rattle.netlist.specs.Circuit.{Circuit}
 use Rattle.dump_reader.specs.Grammar.{block_count}
 use Rattle.dump_reader.specs.Print.{printed}
-use Rattle.cycle_sim.specs.BitTable.{BitTable}
-use Rattle.cycle_sim.specs.Drawing.{AreDrawn}
+use Rattle.cycle_sim.specs.Drawing.{drawn_bit}
 use Rattle.cycle_sim.specs.Simulation.{IsSimulated, traced_rows}
 use Rattle.restore_program.specs.declared.status.Status.{Status}
 use Rattle.restore_program.specs.declared.status.Status.TheVariants as statuses
@@ -37,17 +36,13 @@ IsUnknownFirst c names name = (before : List (List ℕ)) × StandsNext c names n
 abbrev pub IsTwiceFirst : Circuit → List (List ℕ) → List ℕ → Type 0
 IsTwiceFirst c names name = (before : List (List ℕ)) × StandsNext c names name before × Contains before name
 
--- a stimulus of the netlist over so many cycles from a seed
-pub record IsStimulus (c : Circuit) (seed cycles : ℕ) (stimulus : BitTable) : Type 0 where
-  pub inputs : stimulus.width ≡ length c.inputs
-  pub count : stimulus.count ≡ cycles
-  pub drawn : AreDrawn seed stimulus
+-- a simulated execution over so many cycles, whose inputs have the bits that are drawn from the seed
+abbrev pub IsDrawnRun : Circuit → ℕ → ℕ → Valuation → Type 0
+IsDrawnRun c seed cycles v = IsSimulated c cycles (drawn_bit seed (length c.inputs)) v
 
--- the text of the dump of these signals in the simulated execution
+-- the text of the dump of these signals in the drawn run
 abbrev pub IsTraceText : Circuit → ℕ → ℕ → List Sig → List ℕ → Type 0
-IsTraceText c seed cycles sigs text =
-    (stimulus : BitTable) × (v : Valuation) × IsStimulus c seed cycles stimulus × IsSimulated c stimulus v
-    × (text ≡ printed c.names (record { cycles = cycles; rows = traced_rows v cycles sigs }))
+IsTraceText c seed cycles sigs text = (v : Valuation) × IsDrawnRun c seed cycles v × (text ≡ printed c.names (record { cycles = cycles; rows = traced_rows v cycles sigs }))
 
 -- on a netlist, so many cycles, a seed and a list of names
 pub data OnTrace (c : Circuit) (cycles seed : ℕ) (list : List ℕ) : List ℕ → Status → Type 0 where

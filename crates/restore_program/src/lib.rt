@@ -18,7 +18,7 @@ mod word_numbers;
 mod word_rules;
 mod words;
 
-pub use laws::answer_laws;
+pub use laws::{answer_laws, word_laws};
 pub use report::WordRefusal;
 pub use status::Status;
 pub use top::run;

@@ -5,9 +5,10 @@ ghost use Rattle.netlist.specs.Circuit.{IsCircuit};
 ghost use Rattle.netlist.specs.Wiring.{flip_flops};
 ghost use Rattle.unroll.specs.Problem.{signals_in};
 ghost use Rattle.cycle_sim.specs.Load.{IsLoadSize};
-ghost use Rattle.restore_program.specs.Answer.{IsFault, IsOfWords, OnLoad, Replies};
-ghost use Rattle.restore_program.specs.Loading.{IsCounted, IsLoadTrace, IsLoaded, load_circuit};
-ghost use Rattle.restore_program.specs.Reply.{IsReady};
+ghost use Rattle.restore_program.specs.Answer.{OnLoad};
+ghost use Rattle.restore_program.specs.ReplyAnswers.{IsFault, IsOfWords, Replies};
+ghost use Rattle.restore_program.specs.Loading.{AreCountsOf, IsLoadText, IsLoadTrace, load_circuit};
+ghost use Rattle.restore_program.specs.Reply.{IsReady, loaded_line};
 
 use crate::reply::{Loaded, Reply};
 use cycle_sim::{load_netlist, simulate_trace, stimulus};
@@ -55,7 +56,7 @@ fn loaded_from<R: Threads + Sync, C: Closer>(
     signals: u32,
 ) -> Result<Loaded, NoMemory>
     requires { IsLoadSize signals }
-    ensures { IfOk result (IsLoaded number signals) }
+    ensures { IfOk result (λ loaded. IsLoadText number signals (loaded_line loaded)) }
 {
     let n = drawn_netlist(alloc, number, signals)?;
     let trace = drawn_trace(alloc, &n, number)?;
@@ -107,7 +108,7 @@ fn counted<R: Threads + Sync, C: Closer>(
     requires load_cycles { p.now.cycles ≡ 256 }
     requires cycles { trace.now.cycles ≡ 256 }
     requires signals { All (λ row. row.sig.0 < signals_in p.now) trace.now.rows }
-    ensures { IfOk result (IsCounted p.now.circuit trace.now.rows) }
+    ensures { IfOk result (AreCountsOf p.now.circuit trace.now.rows) }
 {
     let base = seed(alloc, p, trace)?;
     let known = closer.close(rt, alloc, p, &base)?;

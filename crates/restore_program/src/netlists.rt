@@ -3,7 +3,9 @@ ghost use Rattle.std.specs.Prelude.{◌≡◌, ◌≢◌, ◌<◌, ◌≤◌, �
 ghost use Rattle.sr_outside.specs.Counts.{IsCounted};
 ghost use Rattle.sr_outside.specs.Told.{IsSteady};
 ghost use Rattle.restore_program.specs.Reply.{IsReady};
-ghost use Rattle.restore_program.specs.Answer.{IsOfWords, most_bytes, IsFault, IsNetlistFault, IsNetlistOf, IsNetlistText, OnFault, OnRefused, RefusedNetlist, Replies, unread_refusal};
+ghost use Rattle.restore_program.specs.Answer.{most_bytes, IsNetlistOf, IsNetlistText, OnRefused, RefusedNetlist};
+ghost use Rattle.restore_program.specs.Faults.{IsNetlistFault};
+ghost use Rattle.restore_program.specs.ReplyAnswers.{IsOfWords, IsFault, OnFault, Replies, unread_refusal};
 
 use crate::reply::Reply;
 use bench_reader::read_bench;
@@ -47,8 +49,8 @@ pub(crate) fn unread(part: Part, refusal: ReadRefusal) -> Refusal
     ensures { result ≡ unread_refusal part refusal }
 {
     match refusal {
-        ReadRefusal::Fault => Refusal::Fault { part },
-        ReadRefusal::TooLong => Refusal::TooLong { part },
+        ReadRefusal::Fault => Refusal::Fault(part),
+        ReadRefusal::TooLong => Refusal::TooLong(part),
         ReadRefusal::NoMemory => Refusal::NoMemory,
     }
 }
@@ -66,14 +68,14 @@ fn parse_netlist(alloc: Global, bytes: &[u8]) -> Result<Netlist, Reply>
         Ok(statements) => statements,
         Err(refusal) => {
             return Err(Reply::Refused {
-                refusal: Refusal::Bench { refusal },
+                refusal: Refusal::Bench(refusal),
             });
         }
     };
     match build(alloc, &statements) {
         Ok(netlist) => Ok(netlist),
         Err(refusal) => Err(Reply::Refused {
-            refusal: Refusal::Net { refusal },
+            refusal: Refusal::Net(refusal),
         }),
     }
 }

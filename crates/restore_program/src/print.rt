@@ -2,7 +2,9 @@
 ghost use Rattle.std.specs.Prelude.{◌≡◌, ◌≢◌, ◌<◌, ◌≤◌, ℕ, List, IfSome};
 ghost use Rattle.sr_outside.specs.Counts.{IsCounted};
 ghost use Rattle.sr_outside.specs.Told.{IsSteady};
-ghost use Rattle.restore_program.specs.Answer.{IsOfWords, IsFault, IsNetlistFault, OnFault, Replies, RequestAnswer};
+ghost use Rattle.restore_program.specs.Answer.{RequestAnswer};
+ghost use Rattle.restore_program.specs.Faults.{IsNetlistFault};
+ghost use Rattle.restore_program.specs.ReplyAnswers.{IsOfWords, IsFault, OnFault, Replies};
 ghost use Rattle.restore_program.specs.Printing.{IsPrinted};
 ghost use Rattle.restore_program.specs.Reply.{IsReady};
 ghost use Rattle.restore_program.specs.Requests.{printing};

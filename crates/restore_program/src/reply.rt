@@ -1,11 +1,10 @@
 //! What a run writes.
-ghost use Rattle.std.specs.Prelude.{◌≡◌, map};
+ghost use Rattle.std.specs.Prelude.{◌≡◌, ◌⊎◌, map};
 ghost use Rattle.std.specs.String.{string_bytes};
 ghost use Rattle.known_planes.specs.Planes.{has};
 ghost use Rattle.report.specs.Table.{table_text};
 ghost use Rattle.report.specs.Writes.{Writes};
-ghost use Rattle.restore_program.specs.Loading.{loaded_line};
-ghost use Rattle.restore_program.specs.Reply.{IsReady, IsTable, unrolling_of, text_of, status_of, refusal_status, part_status, bench_status, net_status, dump_status};
+ghost use Rattle.restore_program.specs.Reply.{HasBuffer, IsReady, IsTable, IsTableReply, unrolling_of, text_of, loaded_line, status_of, refusal_status, part_status, bench_status, net_status, dump_status};
 
 use crate::status::Status;
 use bench_reader::BenchRefusal;
@@ -14,8 +13,9 @@ use known_planes::Planes;
 use netlist::{NetRefusal, Netlist};
 use ratio::Ratio;
 use report::{Part, Refusal, RowBuf, write_clash, write_load, write_refusal, write_table};
-use sr_model::{Bytes, Cell};
+use sr_model::{Bytes, Cell, NoMemory};
 use sr_outside::{Sink, WriteFault, write_all};
+use std::alloc::Global;
 use unroll::Problem;
 
 /// What is known of a netlist over so many cycles, and all that its table takes.
@@ -28,7 +28,6 @@ pub struct Table {
     pub(crate) traced: u64,
     /// Whether all signals have a row.
     pub(crate) all: bool,
-    pub(crate) buf: RowBuf,
 }
 
 /// What follows from the trace of a netlist that is drawn from a number.
@@ -70,15 +69,15 @@ fn refusal_status(refusal: &Refusal) -> Status
     ensures { result ≡ refusal_status refusal.now }
 {
     match refusal {
-        Refusal::Bench { refusal } => bench_status(refusal),
-        Refusal::Net { refusal } => net_status(refusal),
-        Refusal::Dumped { refusal } => dump_status(refusal),
-        Refusal::TooLong { part } => part_status(*part),
-        Refusal::Words { .. } | Refusal::TraceUnknown { .. } | Refusal::TraceTwice { .. } => {
+        Refusal::Bench(refusal) => bench_status(refusal),
+        Refusal::Net(refusal) => net_status(refusal),
+        Refusal::Dumped(refusal) => dump_status(refusal),
+        Refusal::TooLong(part) => part_status(*part),
+        Refusal::Words(_) | Refusal::TraceUnknown { .. } | Refusal::TraceTwice { .. } => {
             Status::Words
         }
         Refusal::CellsByWords { .. } => Status::Dump,
-        Refusal::Fault { .. } => Status::ReadFault,
+        Refusal::Fault(_) => Status::ReadFault,
         Refusal::NoMemory => Status::NoMemory,
     }
 }
@@ -119,18 +118,49 @@ fn dump_status(refusal: &DumpRefusal) -> Status
     }
 }
 
+/// A reply, and the row buffer that a table takes.
+#[derive(Drop)]
+pub(crate) struct Prepared {
+    pub(crate) reply: Reply,
+    pub(crate) buf: Option<RowBuf>,
+}
+
+/// Takes the memory that writing the reply takes, before a byte is written. Where it is refused, that is the reply.
+pub(crate) fn prepare(alloc: Global, reply: Reply) -> Prepared
+    ensures same { (result.reply ≡ reply) ⊎ (IsTableReply reply × (result.reply ≡ Reply.Refused Refusal.NoMemory)) }
+    ensures buffer { HasBuffer result.reply result.buf }
+{
+    let Reply::Known { .. } = &reply else {
+        return Prepared { reply, buf: None };
+    };
+    match RowBuf::new(alloc) {
+        Ok(buf) => Prepared {
+            reply,
+            buf: Some(buf),
+        },
+        Err(NoMemory) => Prepared {
+            reply: Reply::Refused {
+                refusal: Refusal::NoMemory,
+            },
+            buf: None,
+        },
+    }
+}
+
 /// Writes the reply on these words. It takes no memory.
 pub(crate) fn write_reply<K: Sink>(
-    reply: &mut Reply,
+    reply: &Reply,
+    buf: &mut Option<RowBuf>,
     words: &[String],
     out: &mut K,
 ) -> Result<(), WriteFault>
-    requires { IsReady (map string_bytes words.now) reply.old }
-    ensures { Writes (K.written out.old) (K.written out.new) (K.room out.new) (K.faults out.old) (K.faults out.new) result (text_of (map string_bytes words.now) reply.old) }
+    requires ready { IsReady (map string_bytes words.now) reply.now }
+    requires buffer { HasBuffer reply.now buf.old }
+    ensures { Writes K.written K.room K.faults out.old out.new result (text_of (map string_bytes words.now) reply.now) }
 {
     match reply {
         Reply::Refused { refusal } => write_refusal(refusal, words, out),
-        Reply::Known { table } => write_known(table, out),
+        Reply::Known { table } => write_known(table, buf.as_mut().unwrap(), out),
         Reply::Clash { netlist, cell } => write_clash(netlist, *cell, out),
         Reply::Text { text } => write_text(text.as_slice(), out),
         Reply::Load { loaded } => write_loaded(*loaded, out),
@@ -138,24 +168,17 @@ pub(crate) fn write_reply<K: Sink>(
 }
 
 /// Writes a table.
-fn write_known<K: Sink>(table: &mut Table, out: &mut K) -> Result<(), WriteFault>
-    requires { IsTable table.old }
-    ensures { Writes (K.written out.old) (K.written out.new) (K.room out.new) (K.faults out.old) (K.faults out.new) result (table_text table.old.netlist table.old.cycles (has (unrolling_of table.old) table.old.planes) table.old.traced table.old.all) }
+fn write_known<K: Sink>(table: &Table, buf: &mut RowBuf, out: &mut K) -> Result<(), WriteFault>
+    requires { IsTable table.now }
+    ensures { Writes K.written K.room K.faults out.old out.new result (table_text table.now.netlist table.now.cycles (has (unrolling_of table.now) table.now.planes) table.now.traced table.now.all) }
 {
     let problem = Problem::new(&table.netlist, table.cycles);
-    write_table(
-        &problem,
-        &table.planes,
-        table.traced,
-        table.all,
-        &mut table.buf,
-        out,
-    )
+    write_table(&problem, &table.planes, table.traced, table.all, buf, out)
 }
 
 /// Writes the line of a load netlist.
 fn write_loaded<K: Sink>(loaded: Loaded, out: &mut K) -> Result<(), WriteFault>
-    ensures { Writes (K.written out.old) (K.written out.new) (K.room out.new) (K.faults out.old) (K.faults out.new) result (loaded_line loaded) }
+    ensures { Writes K.written K.room K.faults out.old out.new result (loaded_line loaded) }
 {
     write_load(
         loaded.number,
@@ -167,7 +190,7 @@ fn write_loaded<K: Sink>(loaded: Loaded, out: &mut K) -> Result<(), WriteFault>
 }
 
 fn write_text<K: Sink>(text: &[u8], out: &mut K) -> Result<(), WriteFault>
-    ensures { Writes (K.written out.old) (K.written out.new) (K.room out.new) (K.faults out.old) (K.faults out.new) result text.now }
+    ensures { Writes K.written K.room K.faults out.old out.new result text.now }
 {
     write_all(out, text)
 }

@@ -9,7 +9,9 @@ ghost use Rattle.sr_outside.specs.Told.{IsSteady};
 ghost use Rattle.dump_reader.specs.Grammar.{block_count};
 ghost use Rattle.unroll.specs.Problem.{signals_in, unrolled};
 ghost use Rattle.known_planes.specs.Planes.{IsOf, has, lits};
-ghost use Rattle.restore_program.specs.Answer.{DumpAnswer, IsDumpFault, IsDumpText, IsFault, IsOfWords, IsRestoreFault, OnDump, OnFault, Replies, RequestAnswer, most_bytes};
+ghost use Rattle.restore_program.specs.Answer.{DumpAnswer, IsDumpText, OnDump, RequestAnswer, most_bytes};
+ghost use Rattle.restore_program.specs.Faults.{IsDumpFault, IsRestoreFault};
+ghost use Rattle.restore_program.specs.ReplyAnswers.{IsFault, IsOfWords, OnFault, Replies};
 ghost use Rattle.restore_program.specs.Outcome.{IsKnown, IsOutcome, IsTraced};
 ghost use Rattle.restore_program.specs.Reply.{IsReady};
 ghost use Rattle.restore_program.specs.Requests.{restoration};
@@ -20,7 +22,7 @@ use dump_reader::{Dump, read_dump};
 use known_planes::{Closer, Planes, seed};
 use netlist::Netlist;
 use plain_close::first_clash;
-use report::{Part, Refusal, RowBuf};
+use report::{Part, Refusal};
 use sr_model::{Cell, NoMemory};
 use sr_outside::{Inputs, read_whole};
 use std::alloc::Global;
@@ -99,12 +101,12 @@ fn recorded_reply<R: Threads + Sync, C: Closer>(
         Ok(dump) => dump,
         Err(refusal) => {
             return Reply::Refused {
-                refusal: Refusal::Dumped { refusal },
+                refusal: Refusal::Dumped(refusal),
             };
         }
     };
     match outcome_of(rt, alloc, closer, &Problem::new(&n, dump.cycles()), &dump) {
-        Ok(outcome) => outcome_reply(alloc, n, &dump, all, outcome),
+        Ok(outcome) => outcome_reply(n, &dump, all, outcome),
         Err(NoMemory) => Reply::Refused {
             refusal: Refusal::NoMemory,
         },
@@ -176,7 +178,7 @@ fn clash_from(alloc: Global, p: &Problem, base: &Planes) -> Result<Outcome, NoMe
 }
 
 /// What is written of what follows from a dump.
-fn outcome_reply(alloc: Global, netlist: Netlist, dump: &Dump, all: bool, outcome: Outcome) -> Reply
+fn outcome_reply(netlist: Netlist, dump: &Dump, all: bool, outcome: Outcome) -> Reply
     requires few { block_count (length netlist.drivers) dump.now.cycles ≤ 4194304 }
     requires outcome { IsOutcome (record { circuit = netlist; cycles = dump.now.cycles }) dump.now.rows outcome }
     ensures answer { (words : List (List ℕ)) (bytes : List ℕ) → IsDumpText netlist bytes dump.now → Replies words (OnDump netlist bytes all) result }
@@ -185,20 +187,13 @@ fn outcome_reply(alloc: Global, netlist: Netlist, dump: &Dump, all: bool, outcom
     ensures no_fault { ¬ (IsFault result) }
 {
     match outcome {
-        Outcome::Known { planes, traced } => known_reply(alloc, netlist, dump, all, planes, traced),
+        Outcome::Known { planes, traced } => known_reply(netlist, dump, all, planes, traced),
         Outcome::Clash { cell } => Reply::Clash { netlist, cell },
     }
 }
 
-/// What is written of what is known. The row buffer is taken here, before a byte is written.
-fn known_reply(
-    alloc: Global,
-    netlist: Netlist,
-    dump: &Dump,
-    all: bool,
-    planes: Planes,
-    traced: u64,
-) -> Reply
+/// What is written of what is known.
+fn known_reply(netlist: Netlist, dump: &Dump, all: bool, planes: Planes, traced: u64) -> Reply
     requires few { block_count (length netlist.drivers) dump.now.cycles ≤ 4194304 }
     requires known { IsKnown (record { circuit = netlist; cycles = dump.now.cycles }) dump.now.rows planes }
     requires traced { IsTraced (record { circuit = netlist; cycles = dump.now.cycles }) dump.now.rows traced }
@@ -207,19 +202,13 @@ fn known_reply(
     ensures not_of_words { ¬ (IsOfWords result) }
     ensures no_fault { ¬ (IsFault result) }
 {
-    match RowBuf::new(alloc) {
-        Ok(buf) => Reply::Known {
-            table: Table {
-                netlist,
-                cycles: dump.cycles(),
-                planes,
-                traced,
-                all,
-                buf,
-            },
-        },
-        Err(NoMemory) => Reply::Refused {
-            refusal: Refusal::NoMemory,
+    Reply::Known {
+        table: Table {
+            netlist,
+            cycles: dump.cycles(),
+            planes,
+            traced,
+            all,
         },
     }
 }

@@ -7,8 +7,10 @@ use std::process::Abort;
 use std::test::*;
 use std::thread::Threads;
 
+mod counting;
 mod loads;
 mod simulations;
+mod sizes;
 
 const GATES: &[u8] = b"INPUT(a)\nINPUT(b)\nn = NOT(a)\ng = AND(n, b)\nq = DFF(g)\nr = DFF(n)\n";
 

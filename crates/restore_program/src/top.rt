@@ -3,16 +3,19 @@ ghost use Rattle.std.specs.Prelude.{◌≡◌, ◌≢◌, ◌<◌, ◌⊎◌, Li
 ghost use Rattle.std.specs.String.{string_bytes};
 ghost use Rattle.std.specs.Io.KnownBytes.{append_known};
 ghost use Rattle.sr_outside.specs.Counts.{IsCounted};
-ghost use Rattle.sr_outside.specs.Told.{AppendsPart, IsFull};
+ghost use Rattle.sr_outside.specs.Told.{AppendsPart, IsFull, LacksPlace};
 ghost use Rattle.restore_program.specs.declared.status.Status.{Status as AnyStatus};
 ghost use Rattle.restore_program.specs.Words.{Gives, IsRestore, IsSimulate, trace_rule};
-ghost use Rattle.restore_program.specs.Answer.{AreRefused, AreSteady, IsFault, IsOfWords, IsPlain, IsWordsFault, OnFault, ReplyAnswer, Says};
-ghost use Rattle.restore_program.specs.Reply.{IsReady, status_of};
+ghost use Rattle.restore_program.specs.Faults.{AreRefused, AreSteady, IsWordsFault, NeedsNoInput};
+ghost use Rattle.restore_program.specs.ReplyAnswers.{IsFault, IsOfWords, OnFault, ReplyAnswer};
+ghost use Rattle.restore_program.specs.Says.{Says};
+ghost use Rattle.restore_program.specs.Status.{IsPlain};
+ghost use Rattle.restore_program.specs.Reply.{HasBuffer, IsReady, status_of};
 ghost use Rattle.restore_program.specs.Sound.{IsAccepted, IsDumpAgain, IsPrintable, IsSoundTable, IsTableOrClash, IsTraceable, NoneMatches};
 
 use crate::load::load_reply;
 use crate::print::print_reply;
-use crate::reply::{Reply, reply_status, write_reply};
+use crate::reply::{Prepared, Reply, prepare, reply_status, write_reply};
 use crate::restore::restore_reply;
 use crate::simulate::simulate_reply;
 use crate::status::Status;
@@ -35,8 +38,8 @@ pub fn run<R: Threads + Sync, I: Inputs, K: Sink>(
     inputs: &mut I,
     out: &mut K,
 ) -> Status
-    // Unless writing fails, a whole text is appended, and where the inputs tell what they hold, it and the status are the answer.
-    // What says that an input was not read says which.
+    // Unless writing fails, a whole text is appended. Where the inputs tell what they hold, and where the words need none of them, it and the status are
+    // the answer. What says that an input was not read says which.
     ensures answer { result ≢ Status.WriteFault → (text : List ℕ) × (K.written out.new ≡ append_known (K.written out.old) text)
         × Says (map string_bytes words.now) (I.held inputs.old) (I.shaky inputs.old) text result }
 
@@ -61,29 +64,53 @@ pub fn run<R: Threads + Sync, I: Inputs, K: Sink>(
     // The dump of a run is written where the netlist, the names and the number of cycles are accepted, unless memory, reading or writing fails.
     ensures traced { IfSome (I.held inputs.old) (λ held. IsTraceable (map string_bytes words.now) held → IsPlain result → result ≡ Status.Done) }
 
-    // Words that are refused start no input. Behind a netlist only the names of a trace can be refused.
+    // Words that are refused, and `load`, start no input. Behind a netlist only the names of a trace can be refused.
     ensures usage { result ≡ Status.Words → AreRefused (map string_bytes words.now) ⊎ IsSimulate (map string_bytes words.now) }
-    ensures refused { AreRefused (map string_bytes words.now) → ((result ≡ Status.Words) ⊎ (result ≡ Status.WriteFault)) × (inputs.new ≡ inputs.old) }
+    ensures refused { AreRefused (map string_bytes words.now) → (result ≡ Status.Words) ⊎ (result ≡ Status.WriteFault) }
+    ensures untouched { NeedsNoInput (map string_bytes words.now) → inputs.new ≡ inputs.old }
 
     // A fault is answered only where one was counted.
     ensures read_fault { result ≡ Status.ReadFault → IsCounted (I.faults inputs.old) (I.faults inputs.new) }
     ensures read_rose { I.faults inputs.old < I.faults inputs.new → (result ≡ Status.ReadFault) ⊎ (result ≡ Status.WriteFault) }
     ensures steady { AreSteady (I.held inputs.old) (I.shaky inputs.old) (map string_bytes words.now) → I.faults inputs.new ≡ I.faults inputs.old }
 
-    // A write fault is answered only where one was counted. Then a proper front of the text was appended.
+    // A write fault is answered only where one was counted. Then a proper front of the text was appended, and where it is told there was no room for all.
     ensures write_fault { result ≡ Status.WriteFault → IsCounted (K.faults out.old) (K.faults out.new) }
     ensures write_rose { K.faults out.old < K.faults out.new → result ≡ Status.WriteFault }
     ensures part { result ≡ Status.WriteFault → (text : List ℕ) × (status : AnyStatus) × AppendsPart (K.written out.old) (K.written out.new) text
-        × Says (map string_bytes words.now) (I.held inputs.old) (I.shaky inputs.old) text status }
+        × LacksPlace (K.written out.old) (K.room out.old) text × Says (map string_bytes words.now) (I.held inputs.old) (I.shaky inputs.old) text status }
     ensures full { result ≡ Status.WriteFault → IsFull (K.written out.new) (K.room out.new) }
+    ensures room { K.room out.new ≡ K.room out.old }
 {
-    let mut closer = PlainCloser::new();
-    let mut reply = reply_to(rt, alloc, words, inputs, &mut closer);
+    let Prepared { reply, mut buf } = prepared_reply(rt, alloc, words, inputs);
     let status = reply_status(&reply);
-    match write_reply(&mut reply, words, out) {
+    match write_reply(&reply, &mut buf, words, out) {
         Ok(()) => status,
         Err(WriteFault) => Status::WriteFault,
     }
+}
+
+/// What is written of these words, with the memory that writing it takes.
+fn prepared_reply<R: Threads + Sync, I: Inputs>(
+    rt: &R,
+    alloc: Global,
+    words: &[String],
+    inputs: &mut I,
+) -> Prepared
+    ensures answer { ReplyAnswer (map string_bytes words.now) (I.held inputs.old) result.reply }
+    ensures ready { IsReady (map string_bytes words.now) result.reply }
+    ensures buffer { HasBuffer result.reply result.buf }
+    ensures fault_of { OnFault (IsWordsFault (map string_bytes words.now) (I.held inputs.old) (I.shaky inputs.old)) result.reply }
+    ensures of_words { IsOfWords result.reply → AreRefused (map string_bytes words.now) ⊎ IsSimulate (map string_bytes words.now) }
+    ensures refused { AreRefused (map string_bytes words.now) → status_of result.reply ≡ Status.Words }
+    ensures untouched { NeedsNoInput (map string_bytes words.now) → inputs.new ≡ inputs.old }
+    ensures fault { IsFault result.reply → IsCounted (I.faults inputs.old) (I.faults inputs.new) }
+    ensures rose { I.faults inputs.old < I.faults inputs.new → IsFault result.reply }
+    ensures steady { AreSteady (I.held inputs.old) (I.shaky inputs.old) (map string_bytes words.now) → I.faults inputs.new ≡ I.faults inputs.old }
+{
+    let mut closer = PlainCloser::new();
+    let reply = reply_to(rt, alloc, words, inputs, &mut closer);
+    prepare(alloc, reply)
 }
 
 /// What is written of these words.
@@ -98,7 +125,8 @@ fn reply_to<R: Threads + Sync, I: Inputs, C: Closer>(
     ensures ready { IsReady (map string_bytes words.now) result }
     ensures fault_of { OnFault (IsWordsFault (map string_bytes words.now) (I.held inputs.old) (I.shaky inputs.old)) result }
     ensures of_words { IsOfWords result → AreRefused (map string_bytes words.now) ⊎ IsSimulate (map string_bytes words.now) }
-    ensures refused { AreRefused (map string_bytes words.now) → (status_of result ≡ Status.Words) × (inputs.new ≡ inputs.old) }
+    ensures refused { AreRefused (map string_bytes words.now) → status_of result ≡ Status.Words }
+    ensures untouched { NeedsNoInput (map string_bytes words.now) → inputs.new ≡ inputs.old }
     ensures fault { IsFault result → IsCounted (I.faults inputs.old) (I.faults inputs.new) }
     ensures rose { I.faults inputs.old < I.faults inputs.new → IsFault result }
     ensures steady { AreSteady (I.held inputs.old) (I.shaky inputs.old) (map string_bytes words.now) → I.faults inputs.new ≡ I.faults inputs.old }
@@ -131,7 +159,7 @@ fn reply_to<R: Threads + Sync, I: Inputs, C: Closer>(
         Ok(Settings::Print) => print_reply(alloc, inputs, words[1].as_str()),
         Ok(Settings::Load { number, signals }) => load_reply(rt, alloc, closer, number, signals),
         Err(refusal) => Reply::Refused {
-            refusal: Refusal::Words { refusal },
+            refusal: Refusal::Words(refusal),
         },
     }
 }

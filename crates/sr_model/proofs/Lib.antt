@@ -2,7 +2,12 @@ pub mod AndExact
 pub mod AndKinds
 pub mod AndLike
 pub mod ClosureLaws
+pub mod Decided
+pub mod DecidedForcing
+pub mod DecidedLevels
 pub mod Families
+pub mod FirstClash
+pub mod Forcing
 pub mod FromNothing
 pub mod Instances
 pub mod Members

@@ -1,9 +1,10 @@
 -- What a set of literals forces, and what follows from it.
-use Rattle.std.specs.Prelude.{ℕ, zero, suc, ◌≡◌, ◌<◌, ◌≤◌, ◌⊎◌, ⊤, Bool, true, false, IsTrue, List, [], ◌∷◌, Some}
+use Rattle.std.specs.Prelude.{ℕ, zero, suc, ◌≡◌, ◌≤◌, ◌⊎◌, ⊤, Bool, true, false, IsTrue, List, [], ◌∷◌, Some}
 use Rattle.std.specs.List.{Contains, All}
 use Rattle.sr_model.specs.declared.cells.Cell.{Cell}
 use Rattle.sr_model.specs.declared.cells.Lit.{Lit}
 use Rattle.sr_model.specs.declared.cells.Place.{Place}
+use Rattle.sr_model.specs.Order.{CellLe}
 use Rattle.sr_model.specs.Netlist.{Unrolled, Instance, instance_at, cells_of, Valuation, IsRow, Has, Agrees}
 
 -- a set of literals
@@ -64,15 +65,15 @@ level u base (suc i) l = level u base i l ⊎ ForcesSomewhere u (level u base i)
 abbrev pub HasBoth : LitSet → Cell → Type 0
 HasBoth known c = known (lit c false) × known (lit c true)
 
--- by cycle and then by signal
-abbrev pub CellLe : Cell → Cell → Type 0
-CellLe a b = (a.cycle < b.cycle) ⊎ ((a.cycle ≡ b.cycle) × (a.sig.0 ≤ b.sig.0))
+-- c is the least cell that has both literals in the set
+pub record IsLeastClash (known : LitSet) (c : Cell) : Type 0 where
+  pub both : HasBoth known c
+  pub least : (d : Cell) → HasBoth known d → CellLe c d
 
--- c is the least cell that has both literals in the first level that has such a cell, which is level i
+-- the first level that has both literals of some cell is level i, and c is the least such cell in it
 pub record IsClash (u : Unrolled) (base : LitSet) (c : Cell) (i : ℕ) : Type 0 where
-  pub both : HasBoth (level u base i) c
   pub first_level : (j : ℕ) (d : Cell) → HasBoth (level u base j) d → i ≤ j
-  pub least_cell : (d : Cell) → HasBoth (level u base i) d → CellLe c d
+  pub least_cell : IsLeastClash (level u base i) c
 
 -- the literals that pass a test
 abbrev pub passing : (Lit → Bool) → Lit → Type 0

@@ -1,9 +1,10 @@
 -- The laws of the closure, for each netlist and number of cycles, and each set of literals that a test gives.
 use Rattle.std.specs.Prelude.{ℕ, suc, Bool, List}
+use Rattle.std.specs.List.{Contains}
 use Rattle.sr_model.specs.declared.cells.Cell.{Cell}
 use Rattle.sr_model.specs.declared.cells.Lit.{Lit}
-use Rattle.sr_model.specs.Netlist.{Unrolled, Valuation, IsExecution, Has}
-use Rattle.sr_model.specs.Closure.{Closure, ForcesSomewhere, IsWithin, SameLits, IsClosed, level, passing, HasBoth}
+use Rattle.sr_model.specs.Netlist.{Unrolled, Instance, cells_of, Valuation, IsExecution, Has}
+use Rattle.sr_model.specs.Closure.{Closure, Forces, ForcesSomewhere, IsWithin, SameLits, IsClosed, level, passing, HasBoth}
 use Rattle.sr_model.specs.Dump.{Row, Known, Matches}
 
 -- the closure has the base
@@ -75,3 +76,15 @@ abbrev pub StableLevel : Type 0
 StableLevel =
     (u : Unrolled) (base : Lit → Bool) (i : ℕ) → IsWithin (level u (passing base) (suc i)) (level u (passing base) i)
     → SameLits (level u (passing base) i) (Closure u (passing base))
+
+-- what is forced at an instance depends on the known literals of the instance's cells alone
+abbrev pub ForcedByCells : Type 0
+ForcedByCells =
+    (i : Instance) (known same : Lit → Bool) → ((l : Lit) → Contains (cells_of i) l.cell → passing known l → passing same l)
+    → IsWithin (Forces i (passing known)) (Forces i (passing same))
+
+-- what few literals force at an instance, more literals force there too
+abbrev pub ForcedGrows : Type 0
+ForcedGrows =
+    (i : Instance) (few many : Lit → Bool) → IsWithin (passing few) (passing many)
+    → IsWithin (Forces i (passing few)) (Forces i (passing many))

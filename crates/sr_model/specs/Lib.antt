@@ -1,10 +1,12 @@
 pub mod AndLike
 pub mod Closure
+pub mod Decisions
 pub mod Declaration
 pub mod Dump
 pub mod Gate
 pub mod Laws
 pub mod Netlist
+pub mod Order
 pub mod Room
 pub mod Worked
 pub mod XorLike

@@ -1,7 +1,8 @@
 //! The laws of the definitions: functions that do nothing, each with a law as its contract.
 //!
 //! A law speaks of every netlist, every number of cycles and every set of literals that a test gives.
-ghost use Rattle.sr_model.specs.Laws.{IsSound, HasBase, ClosureIsClosed, IsLeast, IsMonotone, IsUnionOfLevels, ContradictionExcludes, KnownIsSound, ForcedStaysBetween, ClosedBetweenIsAll, SameClosure, StableLevel};
+ghost use Rattle.sr_model.specs.Laws.{IsSound, HasBase, ClosureIsClosed, IsLeast, IsMonotone, IsUnionOfLevels, ContradictionExcludes, KnownIsSound, ForcedStaysBetween, ClosedBetweenIsAll, SameClosure, StableLevel, ForcedByCells, ForcedGrows};
+ghost use Rattle.sr_model.specs.Decisions.{ClosureIsATest, ClashOrNone, DumpClashOrNone};
 ghost use Rattle.sr_model.specs.Worked.{RestoresR, RulesMissO};
 
 /// The closure of a set of literals has the set, is closed, and is the least such set; it grows with the set, and is the union of the levels.
@@ -26,6 +27,22 @@ pub fn growing_laws()
     ensures closed { ClosedBetweenIsAll }
     ensures same { SameClosure }
     ensures stable { StableLevel }
+{}
+
+/// What an instance forces: it depends on what is known of the instance's own cells, and grows with it.
+pub fn forcing_laws()
+    ensures by_cells { ForcedByCells }
+    ensures grows { ForcedGrows }
+{}
+
+/// What can be decided. Whether a literal follows is a test's answer, over every netlist and number of cycles.
+/// Where the base has finitely many cells, as that of a dump has, either no cell has both literals in the closure, or there is a first level and a least cell that has.
+///
+/// So each record has its table or its contradiction.
+pub fn decision_laws()
+    ensures closure { ClosureIsATest }
+    ensures clash { ClashOrNone }
+    ensures dump { DumpClashOrNone }
 {}
 
 /// A record `q x1` restores `r` in cycle 1, through two gates in cycle 0.

@@ -13,6 +13,9 @@ mod tests;
 
 pub use cells::{Cell, Lit, Place, Sig};
 pub use gates::{Kind, eval};
-pub use laws::{closure_laws, growing_laws, missed_example, soundness_laws, worked_example};
+pub use laws::{
+    closure_laws, decision_laws, forcing_laws, growing_laws, missed_example, soundness_laws,
+    worked_example,
+};
 pub use lists::{Bytes, Lits, Names, NoMemory, Sequence, Sigs, Statements};
 pub use statements::{Numbered, Statement};

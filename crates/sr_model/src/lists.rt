@@ -8,7 +8,7 @@ use std::alloc::{AllocError, AllocFailed, Global};
 use std::marker::Model;
 use thiserror::Error;
 
-/// Memory was refused.
+/// Memory was refused. Its text is that of the program's line, behind the program's name.
 #[derive(Clone, Copy, Debug, PartialEq, Eq, Error)]
 #[error("no memory")]
 pub struct NoMemory;
@@ -54,6 +54,7 @@ impl<T: Drop> Sequence<T> {
     /// The list of these items. It takes no memory.
     pub fn from_vec(items: Vec<T>) -> Sequence<T>
         ensures items { result.items ≡ items.items }
+        ensures room { result.room ≡ items.cap }
     {
         Sequence { items }
     }
@@ -65,13 +66,18 @@ impl<T: Drop> Sequence<T> {
         self.items
     }
 
-    /// Adds an item at the end. Below the room it is not refused, and a refusal leaves the items as they were.
+    /// Adds an item at the end. Below the room it is not refused and keeps the room; a refusal leaves the items as they were.
     pub fn push(&mut self, item: T) -> Result<(), NoMemory>
         ensures ok { OnOk result (self.new.items ≡ self.old.items ++ item ∷ []) }
         ensures err { OnErr result (self.new.items ≡ self.old.items) }
         ensures room { self.old.room ≤ self.new.room }
         ensures below_room { length self.old.items < self.old.room → IsOk result }
+        ensures same_room { length self.old.items < self.old.room → self.new.room ≡ self.old.room }
     {
+        if self.items.len() < self.items.capacity() {
+            self.items.push_reserved(item);
+            return Ok(());
+        }
         match self.items.push(item) {
             Ok(()) => Ok(()),
             Err(AllocFailed { value: _ }) => Err(NoMemory),

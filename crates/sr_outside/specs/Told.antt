@@ -1,5 +1,5 @@
 -- What inputs and sinks tell of themselves: an option, none where they don't tell.
-use Rattle.std.specs.Prelude.{◌≡◌, ◌⊎◌, ℕ, ◌<◌, ◌≤◌, Bool, false, IsTrue, IsSome, IsNone, IsSomeAnd, IfSome, OnSome, List, length, take, Option, None, Some, is_some, if◌then◌else◌}
+use Rattle.std.specs.Prelude.{◌≡◌, ◌⊎◌, ℕ, ◌+◌, ◌<◌, ◌≤◌, Bool, false, IsTrue, IsSome, IsNone, IsSomeAnd, IfSome, OnSome, List, length, take, Option, None, Some, is_some, if◌then◌else◌}
 use Rattle.std.specs.Io.KnownBytes.{append_known}
 
 -- a name's bytes, or none where the name is not held
@@ -35,6 +35,10 @@ IsFull written room = IfSome written (λ bytes. IfSome room (λ most. length byt
 -- where both are told, no more bytes are written than there is room for
 abbrev pub IsWithin : Option (List ℕ) → Option ℕ → Type 0
 IsWithin written room = IfSome written (λ bytes. IfSome room (λ most. length bytes ≤ most))
+
+-- where both are told, there is no room for the whole text
+abbrev pub LacksPlace : Option (List ℕ) → Option ℕ → List ℕ → Type 0
+LacksPlace written room text = IfSome written (λ bytes. IfSome room (λ most. most < length bytes + length text))
 
 -- some of the piece was appended, from its front, and not all of it
 pub record AppendsPart (before after : Option (List ℕ)) (piece : List ℕ) : Type 0 where

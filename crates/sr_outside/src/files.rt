@@ -1,13 +1,13 @@
-//! The real thing: files that are read by name, and standard output. They tell no bytes.
-ghost use Rattle.std.specs.Prelude.{◌≡◌, ◌<◌, ◌≤◌, None, false, length, take, IfSome};
-ghost use Rattle.std.specs.Io.KnownBytes.{Appends};
+//! The real inputs: files that are read by name. What they hold is not told; what is left of one is told as its reader tells it.
+ghost use Rattle.std.specs.Prelude.{◌≡◌, ◌≤◌, None, false, true, is_some, if◌then◌else◌};
+ghost use Rattle.std.proofs.Common.{refl, subst};
+ghost use Rattle.sr_outside.specs.Counts.{IsCounted};
 
 use crate::inputs::{Failed, Inputs};
-use crate::sink::Sink;
-use std::io::{Read, Write};
+use std::fs;
+use std::io::Read;
 use std::marker::Model;
 use std::rt::Files;
-use std::{fs, io};
 
 /// Files, read by name. A file that can't be opened and a read that fails are faults.
 #[derive(Drop)]
@@ -21,12 +21,14 @@ pub struct FileInputs<'r, R: Files> {
 
 impl<'r, R: Files> Model for FileInputs<'r, R> {
     ghost use Rattle.std.specs.Prelude.{is_some};
+    ghost use Rattle.std.specs.Option.{option_and_then};
     ghost use Rattle.sr_outside.specs.Files.{Counted};
 
     ghost Value = { Counted };
 
     ghost view = { λ f. record {
       live = is_some f.file;
+      left = option_and_then R.File.remaining f.file;
       starts = f.starts;
       taken = f.taken;
       faults = f.faults;
@@ -47,6 +49,18 @@ impl<'r, R: Files> FileInputs<'r, R> {
             faults: 0,
         }
     }
+
+    // Counts a fault. No file is live from here on.
+    fn fault(&mut self) -> Failed
+        ensures live { self.new.live ≡ false }
+        ensures faults { IsCounted self.old.faults self.new.faults }
+        ensures never_falls { self.old.faults ≤ self.new.faults }
+        ensures counts { (self.new.starts ≡ self.old.starts) × (self.new.taken ≡ self.old.taken) }
+    {
+        self.file = None;
+        self.faults = self.faults.saturating_add(1);
+        Failed
+    }
 }
 
 impl<R: Files> Inputs for FileInputs<'_, R> {
@@ -54,7 +68,7 @@ impl<R: Files> Inputs for FileInputs<'_, R> {
 
     ghost live = { λ f. f.live };
 
-    ghost left = { λ _. None };
+    ghost left = { λ f. f.left };
 
     ghost shaky = { λ _. None };
 
@@ -74,11 +88,7 @@ impl<R: Files> Inputs for FileInputs<'_, R> {
                 self.file = Some(file);
                 Ok(())
             }
-            Err(_) => {
-                self.file = None;
-                self.faults = self.faults.saturating_add(1);
-                Err(Failed)
-            }
+            Err(_) => Err(self.fault()),
         }
     }
 
@@ -86,77 +96,16 @@ impl<R: Files> Inputs for FileInputs<'_, R> {
         let Some(file) = &mut self.file else {
             unreachable!()
         };
-        match file.read(into) {
-            Ok(count) => {
-                self.taken = self.taken.saturating_add(count as u64);
-                Ok(count)
-            }
-            Err(_) => {
-                self.file = None;
-                self.faults = self.faults.saturating_add(1);
-                Err(Failed)
-            }
-        }
+        let Ok(count) = file.read(into) else {
+            return Err(self.fault());
+        };
+        self.taken = self.taken.saturating_add(count as u64);
+        Ok(count)
     }
 
     ghost tells_shaky = { λ _ told. told };
 
     ghost tells_last = { λ _ told. told };
 
-    ghost tells_left = { λ _ told live. told };
-}
-
-/// Standard output. Each put is flushed, and a put that takes nothing is a fault.
-#[derive(Drop)]
-pub struct StdSink<'r, R> {
-    rt: &'r R,
-    faults: u64,
-}
-
-impl<'r, R> Model for StdSink<'r, R> {
-    ghost use Rattle.std.specs.Prelude.{ℕ};
-
-    ghost Value = { ℕ };
-
-    ghost view = { λ s. s.faults };
-}
-
-impl<'r, R: Print> StdSink<'r, R> {
-    /// Standard output, with no fault so far.
-    pub fn new(rt: &'r R) -> StdSink<'r, R>
-        ensures faults { result ≡ 0 }
-    {
-        StdSink { rt, faults: 0 }
-    }
-}
-
-impl<R: Print> Sink for StdSink<'_, R> {
-    ghost written = { λ _. None };
-
-    ghost room = { λ _. None };
-
-    ghost faults = { λ faults. faults };
-
-    fn put(&mut self, piece: &[u8]) -> Result<usize, Failed> {
-        let mut out = io::writer(self.rt);
-        match put_flushed(&mut out, piece) {
-            Some(count) => Ok(count),
-            None => {
-                self.faults = self.faults.saturating_add(1);
-                Err(Failed)
-            }
-        }
-    }
-}
-
-// How many bytes of the piece were written and flushed.
-fn put_flushed<W: Write>(out: &mut W, piece: &[u8]) -> Option<usize>
-    ensures some { IfSome result (λ count. 0 < count) }
-    ensures bound { IfSome result (λ count. count ≤ length piece.now) }
-    ensures appended { IfSome result (λ count.
-        Appends (W.contents out.old) (W.contents out.new) (take count piece.now)) }
-{
-    let count = out.write(piece).ok()?;
-    out.flush().ok()?;
-    if count == 0 { None } else { Some(count) }
+    ghost tells_left = { λ f told live. subst (λ b. (if b then is_some f.left else true) ≡ true) told refl };
 }

@@ -1,14 +1,11 @@
 //! Inputs that are read by name, one at a time.
 ghost use Rattle.std.specs.Prelude.{◌≡◌, ◌<◌, ◌≤◌, ℕ, Bool, false, IsTrue, List, length, take, IfOk, OnOk, OnErr, Option, Some, IfSome, IsSome};
-ghost use Rattle.std.specs.Io.KnownBytes.{prepend_known, IsAtEnd};
+ghost use Rattle.std.specs.Io.KnownBytes.{Consumes, IsAtEnd};
 ghost use Rattle.sr_outside.specs.Counts.{count_after, IsCounted};
 ghost use Rattle.sr_outside.specs.Told.{Held, held_name, MayFail, IsLastShaky};
 
-use thiserror::Error;
-
 /// A call on the outside failed.
-#[derive(Clone, Copy, Debug, PartialEq, Eq, Error)]
-#[error("failed")]
+#[derive(Clone, Copy, Debug, PartialEq, Eq)]
 pub struct Failed;
 
 /// Inputs that are read by name, one at a time. No call changes what is held or what is shaky.
@@ -71,7 +68,7 @@ pub trait Inputs {
         ensures live_err { OnErr result (live self.new ≡ false) }
         ensures bound { IfOk result (λ count. count ≤ length into.new) }
         ensures left { IfOk result (λ count.
-            left self.old ≡ prepend_known (take count into.new) (left self.new)) }
+            Consumes (left self.old) (left self.new) (take count into.new)) }
         ensures end { IfOk result (λ count.
             count ≡ 0 → 0 < length into.new → IsAtEnd (left self.new)) }
 

@@ -15,10 +15,12 @@ mod sink;
 mod tests;
 mod whole;
 mod write;
+mod writer;
 
-pub use files::{FileInputs, StdSink};
+pub use files::FileInputs;
 pub use inputs::{Failed, Inputs};
 pub use memory::{MemInputs, MemSink};
 pub use sink::Sink;
 pub use whole::{PIECE, ReadRefusal, read_whole};
 pub use write::{WriteFault, write_all};
+pub use writer::{StdSink, WriterSink};

@@ -1,8 +1,8 @@
 //! Each public call once, each call on an input failing in turn, the room of a sink and its short puts, and the real
 //! thing: a file of 3 MB, a missing one, standard output.
 use crate::{
-    Failed, FileInputs, MemInputs, MemSink, ReadRefusal, Sink, StdSink, WriteFault, read_whole,
-    write_all,
+    Failed, FileInputs, MemInputs, MemSink, ReadRefusal, Sink, StdSink, WriteFault, WriterSink,
+    read_whole, write_all,
 };
 use sr_model::Bytes;
 use std::process::Abort;
@@ -17,8 +17,8 @@ fn expect_text(
     match (read, want) {
         (Ok(text), Ok(bytes)) => assert_eq!(rt; text.as_slice(), bytes),
         (Err(refusal), Err(expected)) => assert_eq!(rt; refusal, expected),
-        (Ok(_), Err(expected)) => assert!(rt; false, "read, where {expected} was expected"),
-        (Err(refusal), Ok(_)) => assert!(rt; false, "{refusal}"),
+        (Ok(_), Err(expected)) => assert!(rt; false, "read, where {expected:?} was expected"),
+        (Err(refusal), Ok(_)) => assert!(rt; false, "{refusal:?}"),
     }
 }
 
@@ -132,4 +132,13 @@ fn reads_files(rt: HostRuntime) -> Result<(), Fail> {
 fn writes_standard_output(rt: HostRuntime) {
     let mut sink = StdSink::new(&rt);
     assert_eq!(rt; write_all(&mut sink, b"written by sr_outside\n"), Ok(()));
+}
+
+#[test]
+fn a_writer_has_what_was_put(rt: HostRuntime) -> Result<(), Fail> {
+    let mut sink = WriterSink::over(Vec::new(rt.alloc()));
+    assert_eq!(rt; write_all(&mut sink, b"first "), Ok(()));
+    assert_eq!(rt; sink.put(b"second"), Ok(6));
+    assert_eq!(rt; sink.into_writer().as_slice(), b"first second".as_slice());
+    Ok(())
 }

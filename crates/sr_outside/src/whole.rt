@@ -6,22 +6,18 @@ ghost use Rattle.sr_outside.specs.Told.{held_name, IsLastShaky, IsSteady};
 use crate::inputs::{Failed, Inputs};
 use sr_model::Bytes;
 use std::alloc::{AllocError, Global};
-use thiserror::Error;
 
 /// So many bytes are asked for at a time, so a reading takes at most so many past its limit.
 pub const PIECE: usize = 65536;
 
 /// Why an input was not read whole.
-#[derive(Clone, Copy, Debug, PartialEq, Eq, Error)]
+#[derive(Clone, Copy, Debug, PartialEq, Eq)]
 pub enum ReadRefusal {
     /// Its start or one of its reads failed.
-    #[error("read fault")]
     Fault,
     /// It has more bytes than the limit.
-    #[error("too long")]
     TooLong,
     /// Memory was refused.
-    #[error("no memory")]
     NoMemory,
 }
 

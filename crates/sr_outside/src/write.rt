@@ -6,11 +6,9 @@ ghost use Rattle.sr_outside.specs.Told.{AppendsPart, IsFull};
 
 use crate::inputs::Failed;
 use crate::sink::Sink;
-use thiserror::Error;
 
 /// A sink took only a part of what was to be written.
-#[derive(Clone, Copy, Debug, PartialEq, Eq, Error)]
-#[error("write fault")]
+#[derive(Clone, Copy, Debug, PartialEq, Eq)]
 pub struct WriteFault;
 
 /// Writes the whole piece, in as few puts as the sink allows. It takes no memory.

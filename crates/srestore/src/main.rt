@@ -1,5 +1,8 @@
 //! `srestore`: runs the command of the command line over files and standard output.
 #![tactic(auto)]
+ghost use Rattle.std.specs.Prelude.{◌≡◌};
+ghost use Rattle.std.specs.Process.{exit_status};
+ghost use Rattle.restore_program.specs.Status.{code_of};
 
 use restore_program::{Status, run};
 use sr_outside::{FileInputs, StdSink};
@@ -19,6 +22,13 @@ fn main(rt: HostRuntime) -> ExitCode {
         }
         Err(_) => Status::NoMemory,
     };
+    exit_code(status)
+}
+
+/// The exit code that is the status's code.
+fn exit_code(status: Status) -> ExitCode
+    ensures { exit_status result ≡ code_of status }
+{
     ExitCode::from(status.code())
 }
 

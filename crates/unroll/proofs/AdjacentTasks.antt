@@ -1,18 +1,21 @@
 -- The tasks that a block is in, by their places in the list.
-use Rattle.std.proofs.Common.{ℕ, zero, suc, ◌≡◌, ◌-◌, ◌<◌, ◌≤◌, ◌&&◌, not, eqb, ltb, get_or, option_map, Some, None, List, [], ◌∷◌, ◌++◌, map, length, arith, inl, inr, refl, sym, ap, ◌∙◌, subst, slice_get}
-use Rattle.std.specs.List.{All}
-use Rattle.std.proofs.lemmas.Bool.{cases_Bool, cond-true, cond-false}
-use Rattle.std.proofs.lemmas.List.Elements.{All-filter, All-get_or}
+use Rattle.std.proofs.Common.{ℕ, zero, suc, ◌≡◌, ◌-◌, ◌<◌, ◌≤◌, ◌&&◌, true, not, eqb, ltb, cond, get_or, option_map, Option, Some, None, List, [], ◌∷◌, ◌++◌, map, length, arith, inl, inr, refl, sym, ap, ◌∙◌, subst, slice_get}
+use Rattle.std.specs.List.{All, Contains}
+use Rattle.std.specs.Prelude.{IfSome}
+use Rattle.std.proofs.lemmas.Bool.{cases_Bool, cond-true, cond-false, true≢false}
+use Rattle.std.proofs.lemmas.List.Elements.{All-filter, All-get_or, All-contains, Contains-append_cases, Contains-push_cases}
 use Rattle.std.proofs.lemmas.List.Sums.{count_by-le-length, length-filter}
 use Rattle.std.proofs.lemmas.List.FromFn.{length-map-range_with_len}
-use Rattle.std.proofs.lemmas.Option.{slice_get-map, slice_get-get_or, slice_get_past}
+use Rattle.std.proofs.lemmas.Option.{slice_get-map, slice_get-get_or, slice_get_past, slice_get_within, get_or_from_slice_get}
 use Rattle.sr_model.specs.declared.cells.Sig.{Sig}
 use Rattle.sr_model.specs.Netlist.{Driver, Input, Driven}
-use Rattle.netlist.specs.Wiring.{driver_at, is_flip_flop, reads, readers, other_readers, signals_below}
+use Rattle.sr_model.proofs.Members.{not_in_nil, Contains-cases, map-member, filter-member, filter-passes}
+use Rattle.netlist.specs.Wiring.{driver_at, is_driven, is_flip_flop, reads, readers, other_readers, signals_below}
 use Rattle.netlist.proofs.Marks.{signals_within}
 use Rattle.unroll.specs.declared.problem.Task.{Task}
-use Rattle.unroll.specs.Problem.{Unrolling}
-use Rattle.unroll.specs.Tasks.{task_at, own_tasks, adjacent_from}
+use Rattle.unroll.specs.Problem.{Unrolling, signals_in, chunks_in}
+use Rattle.unroll.specs.Tasks.{IsTask, task_at, own_tasks, adjacent_from}
+use Rattle.unroll.proofs.BlockNumbers.{block-sig, block-within}
 
 pub slice_get-later : {X : Type 0} (xs ys : List X) (i : ℕ) → length xs ≤ i → slice_get (xs ++ ys) i ≡ slice_get ys (i - length xs)
 slice_get-later [] ys i h = ap (slice_get ys) (less-none i) where
@@ -105,3 +108,50 @@ none-at u s chunk i own size h rs same past =
 pub reader-within : (drivers : List Driver) (s : Sig) (rs : List Sig) → rs ≡ other_readers drivers s → (i : ℕ) (d : Sig) → i < length rs → (get_or rs i d).0 < length drivers
 reader-within drivers s rs same i d within =
     All-get_or (λ r. r.0 < length drivers) rs i d within (subst (All (λ r. r.0 < length drivers)) (sym same) (other_readers-within drivers s))
+
+-- what reads a signal is driven
+reads-driven : (d : Driver) (s : Sig) → reads d s ≡ true → is_driven d ≡ true
+reads-driven Input s e = absurd (true≢false (sym e))
+reads-driven (Driven kind pins) s e = refl
+
+module _ (u : Unrolling) (chunk : ℕ) (early : chunk < chunks_in u) where
+  driven-task : (s : Sig) → s.0 < signals_in u → is_driven (driver_at u.circuit.drivers s.0) ≡ true → IsTask u (task_at u s chunk)
+  driven-task s signal driven = (
+    block-within u s chunk early signal,
+    ap (λ (x : Sig). is_driven (driver_at u.circuit.drivers x.0)) (block-sig u s chunk early) ∙ driven,
+  )
+
+-- a driven signal's own tasks, and those of its other readers, are tasks
+pub adjacent-task : (u : Unrolling) (s : Sig) (chunk : ℕ) → chunk < chunks_in u → s.0 < signals_in u → (t : Task) → Contains (adjacent_from u s chunk) t → IsTask u t
+adjacent-task u s chunk early signal t h =
+    elim (Contains-append_cases (own_tasks u (driver_at u.circuit.drivers s.0) s chunk) (map (λ r. task_at u r chunk) (other_readers u.circuit.drivers s)) t h) [
+      | inl own ↦ at-own (driver_at u.circuit.drivers s.0) refl own
+      | inr later ↦
+          let found : (r : Sig) × Contains (other_readers u.circuit.drivers s) r × (task_at u r chunk ≡ t) = map-member (λ r. task_at u r chunk) (other_readers u.circuit.drivers s) t later in
+          let among : Contains (readers u.circuit.drivers s) found.0 = filter-member (λ r. not (eqb r.0 s.0)) (readers u.circuit.drivers s) found.0 found.1 in
+          subst (IsTask u) found.2
+          (driven-task u chunk early found.0 (All-contains (λ r. r.0 < length u.circuit.drivers) (other_readers u.circuit.drivers s) found.0 (other_readers-within u.circuit.drivers s) found.1)
+          (reads-driven (driver_at u.circuit.drivers found.0.0) s (filter-passes (λ r. reads (driver_at u.circuit.drivers r.0) s) (signals_below (length u.circuit.drivers)) found.0 among)))
+    ]
+  where
+    at-own : (d : Driver) → driver_at u.circuit.drivers s.0 ≡ d → Contains (own_tasks u d s chunk) t → IsTask u t
+    at-own Input e own = absurd (not_in_nil t own)
+    at-own (Driven kind pins) e own =
+        elim (Contains-push_cases (cond (is_flip_flop (Driven kind pins) && ltb 0 chunk) (task_at u s (chunk - 1) ∷ []) []) (task_at u s chunk) t own) [
+          | inr same ↦ subst (IsTask u) same (driven-task u chunk early s signal (ap is_driven e))
+          | inl before ↦ elim (cases_Bool (is_flip_flop (Driven kind pins) && ltb 0 chunk)) [
+            | inl two ↦
+                let among : Contains (task_at u s (chunk - 1) ∷ []) t = subst (λ ts. Contains ts t) (cond-true (is_flip_flop (Driven kind pins) && ltb 0 chunk) (task_at u s (chunk - 1) ∷ []) [] two) before in
+                elim (Contains-cases (task_at u s (chunk - 1)) [] t among) [
+                  | inl same ↦ subst (IsTask u) same (driven-task u (chunk - 1) (omega (arith, early)) s signal (ap is_driven e))
+                  | inr none ↦ absurd (not_in_nil t none)
+                ]
+            | inr one ↦ absurd (not_in_nil t (subst (λ ts. Contains ts t) (cond-false (is_flip_flop (Driven kind pins) && ltb 0 chunk) (task_at u s (chunk - 1) ∷ []) [] one) before))
+          ]
+        ]
+
+-- so is what stands at a place of the list
+pub task-at-place : (u : Unrolling) (s : Sig) (chunk : ℕ) → chunk < chunks_in u → s.0 < signals_in u → (i : ℕ) (r : Option Task) → r ≡ slice_get (adjacent_from u s chunk) i → IfSome r (IsTask u)
+task-at-place u s chunk early signal i None e = tt
+task-at-place u s chunk early signal i (Some t) e =
+    adjacent-task u s chunk early signal t (i, slice_get_within (adjacent_from u s chunk) i t (sym e), get_or_from_slice_get (adjacent_from u s chunk) i t t (sym e))

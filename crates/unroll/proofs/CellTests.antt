@@ -11,8 +11,8 @@ use Rattle.sr_model.proofs.Members.{Contains-here, Contains-there, Contains-map,
 use Rattle.netlist.specs.Wiring.{driver_at, is_driven, reads}
 use Rattle.unroll.specs.declared.problem.Task.{Task}
 use Rattle.unroll.specs.Problem.{Unrolling, IsProblem, unrolled}
-use Rattle.unroll.specs.Tasks.{IsTask, IsCellOf, target_of, chunk_of, delay_of, is_pin_cell, is_target_cell, has_cell}
-use Rattle.unroll.proofs.TaskCells.{CellRole, role, pin-read, driven-by}
+use Rattle.unroll.specs.Tasks.{CellRole, IsTask, IsCellOf, target_of, chunk_of, delay_of, is_pin_cell, is_target_cell, has_cell}
+use Rattle.unroll.proofs.TaskCells.{role, pin-read, driven-by}
 
 module _ (u : Unrolling) (t : Task) (c : Cell) where
   -- a pin's cell

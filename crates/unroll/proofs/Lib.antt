@@ -8,3 +8,5 @@ pub mod AdjacentTasks
 pub mod ConstantTasks
 pub mod CellTests
 pub mod WordBits
+pub mod BlockCells
+pub mod SharedCells

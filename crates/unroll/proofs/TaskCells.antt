@@ -9,13 +9,14 @@ use Rattle.sr_model.specs.declared.cells.Sig.{Sig}
 use Rattle.sr_model.specs.declared.cells.Cell.{Cell}
 use Rattle.sr_model.specs.declared.cells.Place.{Place}
 use Rattle.sr_model.specs.Netlist.{Driver, Input, Driven, Instance, instance_at, cell_at, cells_of, delay}
-use Rattle.sr_model.proofs.Instances.{Stands, stands, instance_of}
+use Rattle.sr_model.proofs.Instances.{Stands, stands, stands-at, instance_of}
 use Rattle.sr_model.proofs.Members.{not_in_nil, Contains-here, Contains-there, Contains-cases, Contains-map, list_any-from, filter-has}
 use Rattle.netlist.specs.Wiring.{driver_at, has_signal, is_driven, is_flip_flop, pins_of, reads, readers, other_readers, signals_below}
 use Rattle.netlist.proofs.Marks.{signals_member}
 use Rattle.unroll.specs.declared.problem.Task.{Task}
 use Rattle.unroll.specs.Problem.{Unrolling, unrolled, IsProblem, signals_in, chunks_in, block_at, sig_at, chunk_at, block_of}
-use Rattle.unroll.specs.Tasks.{IsTask, IsPlaceOf, IsCellOf, task_at, task_of, chunk_of, blocks_of, blocks_from, own_tasks, adjacent_from, adjacent_tasks}
+use Rattle.unroll.specs.Tasks.{IsTask, IsPlaceOf, IsCellOf, CellRole, task_at, task_of, chunk_of, blocks_of, blocks_from, own_tasks, adjacent_from, adjacent_tasks}
+use Rattle.unroll.specs.Laws.{IsCellAt}
 use Rattle.unroll.proofs.BlockNumbers.{block-sig, block-chunk, block-within, cycle-chunk, one-task}
 use Rattle.unroll.proofs.TaskBlocks.{has-itself, signal-block, flip_flop-block}
 
@@ -26,14 +27,6 @@ map-found f (z ∷ zs) y h =
       | inl e ↦ (z, Contains-here z zs, sym e)
       | inr later ↦ let found : (x : _) × Contains zs x × (y ≡ f x) = map-found f zs y later in (found.0, Contains-there z zs found.0 found.1, found.2)
     ]
-
--- a cell of an instance is its target's, or that of a pin
-pub record CellRole (u : Unrolling) (p : Place) (c : Cell) : Type 0 where
-  pub kind : Kind
-  pub pins : List Sig
-  pub driver : driver_at u.circuit.drivers p.target.0 ≡ Driven kind pins
-  pub in_time : p.cycle + delay kind < u.cycles
-  pub which : (c ≡ cell_at (p.cycle + delay kind) p.target) ⊎ ((pin : Sig) × Contains pins pin × (c ≡ cell_at p.cycle pin))
 
 pub role : (u : Unrolling) (p : Place) (i : Instance) (c : Cell) → instance_at (unrolled u) p ≡ Some i → Contains (cells_of i) c → CellRole u p c
 role u p i c at h =
@@ -49,6 +42,19 @@ role u p i c at h =
         | inr later ↦ inr (map-found (cell_at p.cycle) s.pins c later)
       ];
     }
+
+-- and each such cell is one of the instance
+pub role-back : (u : Unrolling) (p : Place) (c : Cell) → CellRole u p c → IsCellAt u p c
+role-back u p c r = record {
+  instance = instance_of r.kind r.pins p;
+  stands = stands-at (unrolled u) p r.kind r.pins r.driver r.in_time;
+  has_cell = elim r.which [
+    | inl e ↦ subst (Contains (cells_of (instance_of r.kind r.pins p))) (sym e) (Contains-here (cell_at (p.cycle + delay r.kind) p.target) (map (cell_at p.cycle) r.pins))
+    | inr (pin, h, e) ↦
+        subst (Contains (cells_of (instance_of r.kind r.pins p))) (sym e)
+        (Contains-there (cell_at (p.cycle + delay r.kind) p.target) (map (cell_at p.cycle) r.pins) (cell_at p.cycle pin) (Contains-map (cell_at p.cycle) r.pins pin h))
+  ];
+}
 
 -- a flip-flop's target is one cycle later, a gate's is not
 pub delay-cases : (kind : Kind) (pins : List Sig) → ((is_flip_flop (Driven kind pins) ≡ true) × (delay kind ≡ 1)) ⊎ ((is_flip_flop (Driven kind pins) ≡ false) × (delay kind ≡ 0))

@@ -1,12 +1,13 @@
 -- A netlist over a number of cycles, in blocks of 64 cycles.
-use Rattle.std.specs.Prelude.{ℕ, ◌+◌, ◌*◌, ◌/◌, ◌%◌, ◌≤◌, Bool, length}
+use Rattle.std.specs.Prelude.{ℕ, ◌+◌, ◌*◌, ◌/◌, ◌%◌, ◌<◌, ◌≤◌, Bool, IsTrue, List, length, slice_index_or}
 use Rattle.sr_model.specs.declared.cells.Cell.{Cell}
 use Rattle.sr_model.specs.declared.cells.Sig.{Sig}
 use Rattle.sr_model.specs.Netlist.{Driver, Unrolled}
 use Rattle.netlist.specs.Circuit.{Circuit, IsCircuit, unrolled_over}
 use Rattle.netlist.specs.Wiring.{driver_at, is_driven}
 use Rattle.unroll.specs.declared.problem.Block.{Block}
-use Rattle.unroll.specs.Bits.{chunk_count}
+use Rattle.unroll.specs.declared.words.PinWord.{PinWord}
+use Rattle.unroll.specs.Bits.{is_set, is_cycle, word_for, chunk_count}
 
 -- what contracts see of a problem
 pub record Unrolling : Type 0 where
@@ -62,3 +63,13 @@ driver_in u b = driver_at u.circuit.drivers (sig_at u b).0
 -- whether a gate or flip-flop drives the block's signal
 abbrev pub is_target : Unrolling → Block → Bool
 is_target u b = is_driven (driver_in u b)
+
+-- the words of a block in the chunk have no bit of a cycle past the last of so many
+abbrev pub HasNoLaterBit : ℕ → ℕ → PinWord → Type 0
+HasNoLaterBit cycles chunk words = (bit : Bool) (i : ℕ) → i < 64 → IsTrue (is_set (word_for bit words) i) → IsTrue (is_cycle cycles chunk i)
+
+-- nor have the words that stand beside any of these blocks
+abbrev pub HaveNoLaterBit : Unrolling → List Block → List PinWord → Type 0
+HaveNoLaterBit u blocks words =
+    (j : ℕ) → j < length blocks
+    → HasNoLaterBit u.cycles (chunk_at u (slice_index_or blocks j (record { 0 = 0 }))) (slice_index_or words j (record { zero = 0; one = 0 }))

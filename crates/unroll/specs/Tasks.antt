@@ -1,12 +1,12 @@
 -- Tasks: a gate or flip-flop in a chunk, its blocks, and the tasks that a block is in.
-use Rattle.std.specs.Prelude.{ℕ, ◌≡◌, ◌+◌, ◌-◌, ◌<◌, ◌/◌, ◌==◌, ◌&&◌, ◌++◌, ◌∷◌, [], ◌||◌, Bool, true, false, not, nat_le, nat_lt, if◌then◌else◌, List, map, Some}
+use Rattle.std.specs.Prelude.{ℕ, ◌≡◌, ◌+◌, ◌-◌, ◌<◌, ◌/◌, ◌==◌, ◌&&◌, ◌++◌, ◌∷◌, [], ◌||◌, ◌⊎◌, Bool, true, false, not, nat_le, nat_lt, if◌then◌else◌, List, map, Some}
 use Rattle.std.specs.List.{Contains, flat_map, list_all, range_with_len}
 use Rattle.sr_model.specs.declared.gates.Kind.{Kind}
 use Rattle.sr_model.specs.declared.gates.Kind.TheVariants.{Xor, Xnor}
 use Rattle.sr_model.specs.declared.cells.Sig.{Sig}
 use Rattle.sr_model.specs.declared.cells.Cell.{Cell}
 use Rattle.sr_model.specs.declared.cells.Place.{Place}
-use Rattle.sr_model.specs.Netlist.{Driver, Input, Driven, Instance, instance_at, cells_of, delay}
+use Rattle.sr_model.specs.Netlist.{Driver, Input, Driven, Instance, instance_at, cell_at, cells_of, delay}
 use Rattle.netlist.specs.Wiring.{driver_at, reads, is_driven, is_flip_flop, signals_of, signals_below, other_readers, is_odd_pin}
 use Rattle.unroll.specs.declared.problem.Block.{Block}
 use Rattle.unroll.specs.declared.problem.Task.{Task}
@@ -44,6 +44,18 @@ pub record IsCellOf (u : Unrolling) (t : Task) (c : Cell) : Type 0 where
   pub instance : Instance
   pub stands : instance_at (unrolled u) place ≡ Some instance
   pub has_cell : Contains (cells_of instance) c
+
+-- the part of a cell in the instance at a place: it is the target's, or that of a pin
+pub record CellRole (u : Unrolling) (p : Place) (c : Cell) : Type 0 where
+  pub kind : Kind
+  pub pins : List Sig
+  pub driver : driver_at u.circuit.drivers p.target.0 ≡ Driven kind pins
+  pub in_time : p.cycle + delay kind < u.cycles
+  pub which : (c ≡ cell_at (p.cycle + delay kind) p.target) ⊎ ((pin : Sig) × Contains pins pin × (c ≡ cell_at p.cycle pin))
+
+-- the signal is that of a flip-flop that is its own data pin
+abbrev pub drives_itself : Unrolling → Sig → Bool
+drives_itself u s = is_flip_flop (driver_at u.circuit.drivers s.0) && reads (driver_at u.circuit.drivers s.0) s
 
 -- how many cycles the target's cell is after the pins'
 abbrev pub delay_of : Driver → ℕ

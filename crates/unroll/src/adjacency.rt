@@ -1,8 +1,8 @@
 //! The tasks that a block is in.
-ghost use Rattle.std.specs.Prelude.{◌≡◌, ◌<◌, ◌≤◌, length, slice_get};
+ghost use Rattle.std.specs.Prelude.{◌≡◌, ◌<◌, ◌≤◌, length, slice_get, IfSome};
 ghost use Rattle.netlist.specs.Wiring.{driver_at};
 ghost use Rattle.unroll.specs.Problem.{chunks_in, blocks_in};
-ghost use Rattle.unroll.specs.Tasks.{adjacent_tasks, adjacent_from, own_tasks};
+ghost use Rattle.unroll.specs.Tasks.{IsTask, adjacent_tasks, adjacent_from, own_tasks};
 
 use crate::problem::{Block, Problem, Task};
 use sr_model::{Kind, Sig};
@@ -12,7 +12,8 @@ impl<'n> Problem<'n> {
     /// flip-flop the task in the chunk before, if there is one, and the task in this chunk; then those of its other readers in this chunk, ascending.
     pub fn adjacent(&self, b: Block, i: u32) -> Option<Task>
         requires { b.0 < blocks_in self.now }
-        ensures { result ≡ slice_get (adjacent_tasks self.now b) i }
+        ensures at { result ≡ slice_get (adjacent_tasks self.now b) i }
+        ensures task { IfSome result (λ t. IsTask self.now t) }
     {
         self.adjacent_in_chunk(self.sig_of(b), self.chunk_of(b), i)
     }
@@ -30,7 +31,8 @@ impl<'n> Problem<'n> {
     pub fn adjacent_in_chunk(&self, s: Sig, chunk: u32, i: u32) -> Option<Task>
         requires signal { s.0 < length self.now.circuit.drivers }
         requires chunk { chunk < chunks_in self.now }
-        ensures { result ≡ slice_get (adjacent_from self.now s chunk) i }
+        ensures at { result ≡ slice_get (adjacent_from self.now s chunk) i }
+        ensures task { IfSome result (λ t. IsTask self.now t) }
     {
         let own = self.own_count(s, chunk);
         if i < own {

@@ -12,7 +12,7 @@ mod task_blocks;
 mod tests;
 mod words;
 
-pub use laws::task_laws;
+pub use laws::{block_laws, cell_laws, task_laws};
 pub use pace::{NoPace, Pace};
 pub use problem::{Block, Problem, Task};
 pub use words::{Blocks, PinWord, PinWords, Tasks};

@@ -8,14 +8,14 @@ use crate::words::Blocks;
 use sr_model::{Kind, NoMemory, Sig};
 
 impl<'n> Problem<'n> {
-    /// Replaces the list by the blocks of the task's cells, ascending: those of a gate's signals in the chunk; of a flip-flop its data pin's and its own in the
+    /// Replaces the list by the blocks of the task's cells, ascending, and keeps its room: those of a gate's signals in the chunk; of a flip-flop its data pin's and its own in the
     /// chunk, and its own in the next chunk where there is one. Time is linear in their number.
     pub fn blocks_of(&self, t: Task, into: &mut Blocks)
         requires task { IsTask self.now t }
         requires room { 1025 ≤ into.old.room }
         ensures blocks { into.new.items ≡ blocks_of self.now t }
         ensures few { length into.new.items ≤ 1025 }
-        ensures room { into.old.room ≤ into.new.room }
+        ensures room { into.new.room ≡ into.old.room }
     {
         let target = Block(t.0);
         self.blocks_in_chunk(self.sig_of(target), self.chunk_of(target), into)
@@ -28,7 +28,7 @@ impl<'n> Problem<'n> {
         requires room { 1025 ≤ into.old.room }
         ensures blocks { into.new.items ≡ blocks_from self.now target chunk }
         ensures few { length into.new.items ≤ 1025 }
-        ensures room { into.old.room ≤ into.new.room }
+        ensures room { into.new.room ≡ into.old.room }
     {
         into.clear();
         for signal in self.net().signals_of(target) {
@@ -43,7 +43,7 @@ impl<'n> Problem<'n> {
         requires chunk { chunk < chunks_in self.now }
         requires room { length into.old.items + length (blocks_for self.now target chunk signal) ≤ into.old.room }
         ensures items { into.new.items ≡ into.old.items ++ blocks_for self.now target chunk signal }
-        ensures room { into.old.room ≤ into.new.room }
+        ensures room { into.new.room ≡ into.old.room }
     {
         push_block(into, self.block(signal, chunk));
         if signal == target && self.goes_on(target, chunk) {
@@ -67,7 +67,7 @@ impl<'n> Problem<'n> {
 fn push_block(into: &mut Blocks, block: Block)
     requires { length into.old.items < into.old.room }
     ensures items { into.new.items ≡ into.old.items ++ block ∷ [] }
-    ensures room { into.old.room ≤ into.new.room }
+    ensures room { into.new.room ≡ into.old.room }
 {
     match into.push(block) {
         Ok(()) => {}

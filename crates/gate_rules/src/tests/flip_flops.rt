@@ -1,6 +1,6 @@
 //! Flip-flops over two chunks and in the last one, bit by bit.
 use super::net_of;
-use crate::forced;
+use crate::{forced, forced_in_cycles};
 use netlist::Netlist;
 use sr_model::Kind;
 use std::alloc::Global;
@@ -9,6 +9,9 @@ use std::test::Fail;
 use unroll::{Block, Blocks, PinWord, PinWords, Problem, Task};
 
 const CYCLES: u32 = 130;
+
+/// All cycles of a chunk, the last one alone, and some.
+const MASKS: [u64; 3] = [u64::MAX, 1 << 63, 0x8000_0f0f_5555_0001];
 
 /// A word that looks like noise.
 fn noise(seed: u64) -> u64 {
@@ -40,12 +43,12 @@ fn has(
     false
 }
 
-/// Whether the bit of a cell follows at an instance of the chunk: from the pin's in the same cycle, or the target's in the next one.
+/// Whether the bit of a cell follows at an instance of the chunk in a cycle of the mask: from the pin's in the same cycle, or the target's in the next one.
 fn follows(
     problem: &Problem<'_>,
     blocks: &Blocks,
     view: &PinWords,
-    chunk: u32,
+    (chunk, mask): (u32, u64),
     pin: u32,
     cell: (u32, u32),
     bit: bool,
@@ -53,7 +56,7 @@ fn follows(
     let (signal, cycle) = cell;
     for from in [cycle, cycle.saturating_sub(1)] {
         let next = from.wrapping_add(1);
-        let there = from / 64 == chunk && next < CYCLES;
+        let there = from / 64 == chunk && next < CYCLES && (mask >> (from % 64)) & 1 == 1;
         let on = (signal == pin && cycle == from) || (signal == 0 && cycle == next);
         let known = has(problem, blocks, view, (pin, from), bit)
             || has(problem, blocks, view, (0, next), bit);
@@ -98,12 +101,12 @@ fn blocks_in(
     Ok(blocks)
 }
 
-/// What `forced` sets of the flip-flop's task in a chunk.
+/// What the calls set of the flip-flop's task in a chunk: `forced` of all cycles, and the other one of those of a mask.
 fn forced_words(
     rt: &impl Abort,
     alloc: Global,
     problem: &Problem<'_>,
-    chunk: u32,
+    (chunk, mask): (u32, u64),
     view: &PinWords,
 ) -> Result<PinWords, Fail> {
     assert!(rt; chunk < problem.blocks());
@@ -113,7 +116,11 @@ fn forced_words(
     let mut out = noise_for(alloc, problem, &blocks)?;
     assert!(rt; view.len() == blocks.len());
     assert!(rt; out.len() == blocks.len());
-    forced(problem, Task(chunk), &blocks, view, &mut out);
+    if mask == u64::MAX {
+        forced(problem, Task(chunk), &blocks, view, &mut out);
+    } else {
+        forced_in_cycles(problem, Task(chunk), mask, &blocks, view, &mut out);
+    }
     Ok(out)
 }
 
@@ -121,20 +128,20 @@ fn check_chunk(
     rt: &impl Abort,
     alloc: Global,
     problem: &Problem<'_>,
-    chunk: u32,
+    (chunk, mask): (u32, u64),
     pin: u32,
 ) -> Result<(), Fail> {
     let blocks = blocks_in(rt, alloc, problem, chunk)?;
     let view = noise_for(alloc, problem, &blocks)?;
-    let out = forced_words(rt, alloc, problem, chunk, &view)?;
+    let out = forced_words(rt, alloc, problem, (chunk, mask), &view)?;
     for cycle in 0..192 {
         for cell in [(0, cycle), (pin, cycle)] {
             for bit in [false, true] {
-                let due = follows(problem, &blocks, &view, chunk, pin, cell, bit);
+                let due = follows(problem, &blocks, &view, (chunk, mask), pin, cell, bit);
                 assert_eq!(rt;
                     has(problem, &blocks, &out, cell, bit),
                     due,
-                    "{chunk} {cell:?} {bit}"
+                    "{chunk} {mask:x} {cell:?} {bit}"
                 );
             }
         }
@@ -146,7 +153,9 @@ fn check(rt: &impl Abort, alloc: Global, net: &Netlist, pin: u32) -> Result<(), 
     assert!(rt; net.signals() <= 2);
     let problem = Problem::new(net, CYCLES);
     for chunk in 0..3 {
-        check_chunk(rt, alloc, &problem, chunk, pin)?;
+        for mask in MASKS {
+            check_chunk(rt, alloc, &problem, (chunk, mask), pin)?;
+        }
     }
     Ok(())
 }

@@ -2,7 +2,7 @@
 //!
 //! A state has two bits a cell, for its literals 0 and 1; a row has one bit a cell. Cell 0 is the target, and the others are the pins' signals.
 use super::net_of;
-use crate::{Count, apply, forced};
+use crate::{Count, apply, forced, forced_in_cycles};
 use netlist::Netlist;
 use sr_model::Kind;
 use std::alloc::Global;
@@ -171,6 +171,25 @@ fn forced_words(
     Ok(out)
 }
 
+/// What `forced_in_cycles` sets in the cycles of a mask.
+fn masked_words(
+    rt: &impl Abort,
+    alloc: Global,
+    problem: &Problem<'_>,
+    mask: u64,
+    view: &PinWords,
+) -> Result<PinWords, Fail> {
+    assert!(rt; problem.blocks() > 0);
+    assert!(rt; problem.is_task(Block(0)));
+    let mut blocks = Blocks::with_room(alloc, 1025)?;
+    problem.blocks_of(Task(0), &mut blocks);
+    let mut out = view_of(alloc, 0, problem.blocks())?;
+    assert!(rt; view.len() == blocks.len());
+    assert!(rt; out.len() == blocks.len());
+    forced_in_cycles(problem, Task(0), mask, &blocks, view, &mut out);
+    Ok(out)
+}
+
 /// What `apply` sets, and that it counts one application.
 fn new_words(
     rt: &impl Abort,
@@ -203,7 +222,10 @@ fn gate(rt: &impl Abort, alloc: Global, kind: Kind, pins: &[u32]) -> Result<Netl
     net_of(rt, alloc, (name_of(0), kind, &names), &inputs)
 }
 
-/// The two calls beside the plain walk, in 64 states.
+/// A cycle in three.
+const MASK: u64 = 0x9249_2492_4924_9249;
+
+/// The calls beside the plain walk, in 64 states.
 fn check_states(
     rt: &impl Abort,
     alloc: Global,
@@ -215,11 +237,18 @@ fn check_states(
     let view = view_of(alloc, first, cells)?;
     let all = forced_words(rt, alloc, problem, &view)?;
     let new = new_words(rt, alloc, problem, &view)?;
+    let masked = masked_words(rt, alloc, problem, MASK, &view)?;
     let states = 1u32 << (2 * cells.min(5));
     for lane in 0..64u32 {
         let known = first.wrapping_add(lane) % states;
         let due = plain_walk(rows, known);
         assert_eq!(rt; state_at(all.as_slice(), lane), due, "{rows:?} {known}");
+        let asked = (MASK >> lane) & 1 == 1;
+        assert_eq!(rt;
+            state_at(masked.as_slice(), lane),
+            if asked { due } else { 0 },
+            "{rows:?} {known}"
+        );
         assert_eq!(rt;
             state_at(new.as_slice(), lane),
             due & !known,

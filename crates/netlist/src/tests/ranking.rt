@@ -1,6 +1,6 @@
 //! The order of small netlists and their loops, worked out by hand.
 ghost use Rattle.std.specs.Prelude.{IsTrue};
-ghost use Rattle.netlist.specs.Wiring.{IsNodeWithin};
+ghost use Rattle.netlist.specs.Nodes.{IsNodeWithin};
 
 use crate::loops::{Loop, gate_order};
 use crate::rank_laws;

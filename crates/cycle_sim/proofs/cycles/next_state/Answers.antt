@@ -1,6 +1,7 @@
 use Rattle.std.proofs.Common.{◌<◌, ◌+◌, false, length, length-set, get_or, arith, sym, ap, subst, ◌∙◌}
 use Rattle.sr_model.specs.declared.cells.Sig.{Sig}
 use Rattle.sr_model.specs.Netlist.{cell_at}
+use Rattle.cycle_sim.specs.BitTable.{bit_in}
 use Rattle.cycle_sim.proofs.FrameSteps.{flip_flop-within, first-pin, flip_flop-value, states-more}
 use Rattle.cycle_sim.proofs.cycles.next_state.Goals as goal
 
@@ -25,7 +26,7 @@ loop-j-preserved c = (
       states-more v (c.args.cycle + 1) c.loop-j.state c.flip_flops-flip_flops.result.now c.loop-j.j (record { 0 = 0 }) (get_or c.args.frame.now pin.0 false)
       (subst (λ n. c.loop-j.j < n) (sym (c.loop-j.auto.state ∙ c.requires.size ∙ ap length (sym c.flip_flops-flip_flops.ensures))) c.loop-j-test.true)
       (c.requires.all v sim pin first.1
-      ∙ sym (flip_flop-value c.args.n.now c.args._s.now v sim c.args.cycle q
+      ∙ sym (flip_flop-value c.args.n.now c.args._s.now.count (bit_in c.args._s.now) v sim c.args.cycle q
       (flip_flop-within c.args.n.now.drivers c.flip_flops-flip_flops.result.now c.flip_flops-flip_flops.ensures c.loop-j.j _ c.loop-j-test.true).1 later c.pins_of.result.now c.pins_of.ensures first.0))
       (c.loop-j.invariant.1 later v sim),
 )

@@ -2,6 +2,7 @@ use Rattle.std.proofs.Common.{◌≡◌, ◌<◌, false, List, length, length-se
 use Rattle.std.specs.List.{Contains}
 use Rattle.sr_model.specs.declared.cells.Sig.{Sig}
 use Rattle.sr_model.specs.Netlist.{Valuation, cell_at}
+use Rattle.cycle_sim.specs.BitTable.{bit_in}
 use Rattle.cycle_sim.specs.Simulation.{IsSimulated}
 use Rattle.cycle_sim.proofs.FrameSteps.{rights-more, set-right, member-right, flip_flop-within, flip_flop-listed}
 use Rattle.cycle_sim.proofs.cycles.set_flip_flops.Goals as goal
@@ -13,7 +14,7 @@ bounds-frame-flip_flops c =
 
 pub loop-j-preserved : goal.loop-j-preserved
 loop-j-preserved c =
-    let set : (v : Valuation) → IsSimulated c.args.n.now c.args._s.now v
+    let set : (v : Valuation) → IsSimulated c.args.n.now c.args._s.now.count (bit_in c.args._s.now) v
     → get_or c.args.state.now c.loop-j.j false ≡ v (cell_at c.args.cycle (get_or c.flip_flops-flip_flops.result.now c.loop-j.j (record { 0 = 0 }))) = λ v sim.
     c.requires.state v sim c.loop-j.j (subst (λ (xs : List Sig). c.loop-j.j < length xs) c.flip_flops-flip_flops.ensures c.loop-j-test.true)
     ∙ ap (λ xs. v (cell_at c.args.cycle (get_or xs c.loop-j.j (record { 0 = 0 })))) (sym c.flip_flops-flip_flops.ensures) in (

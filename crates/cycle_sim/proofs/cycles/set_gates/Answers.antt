@@ -6,6 +6,7 @@ use Rattle.sr_model.specs.declared.cells.Sig.{Sig}
 use Rattle.sr_model.specs.Netlist.{Valuation, cell_at}
 use Rattle.netlist.specs.Wiring.{driver_at, is_gate}
 use Rattle.cycle_sim.specs.declared.gates.Gate.{Gate}
+use Rattle.cycle_sim.specs.BitTable.{bit_in}
 use Rattle.cycle_sim.specs.Simulation.{IsSimulated}
 use Rattle.cycle_sim.specs.Frames.{IsRight, IsGate, in_frame, value_by}
 use Rattle.cycle_sim.proofs.FrameSteps.{rights-more, set-right, member-right, gate-right}
@@ -28,9 +29,9 @@ loop-gate-preserved c =
     (c.requires.gates.ordered.gates (get_or order i (record { 0 = 0 }))).0 (Contains-get_or order i (record { 0 = 0 }) within) in
     let there : s.0 < length c.loop-gate.frame =
     subst (λ n. s.0 < n) (sym (c.loop-gate.auto.frame ∙ c.requires.frame)) (All-get_or (IsGate c.args.n.now) c.args.gates.now i nowhere c.loop-gate-test.true c.requires.gates.each).target in
-    let right : (v : Valuation) → IsSimulated c.args.n.now c.args._s.now v → c.gate_bit.result ≡ v (cell_at c.args.cycle (get_or order i (record { 0 = 0 }))) = λ v sim.
+    let right : (v : Valuation) → IsSimulated c.args.n.now c.args._s.now.count (bit_in c.args._s.now) v → c.gate_bit.result ≡ v (cell_at c.args.cycle (get_or order i (record { 0 = 0 }))) = λ v sim.
     c.gate_bit.ensures ∙ ap (λ (x : Sig). value_by (driver_at c.args.n.now.drivers x.0) (in_frame c.loop-gate.frame)) (sym at)
-    ∙ gate-right c.args.n.now c.requires.circuit c.args._s.now v sim c.args.cycle c.requires.cycle order c.requires.gates.ordered i (record { 0 = 0 }) within c.loop-gate.frame
+    ∙ gate-right c.args.n.now c.requires.circuit c.args._s.now.count (bit_in c.args._s.now) v sim c.args.cycle c.requires.cycle order c.requires.gates.ordered i (record { 0 = 0 }) within c.loop-gate.frame
     (λ x x_within other. c.loop-gate.invariant.1 v sim x (c.requires.others v sim x x_within other)) (c.loop-gate.invariant.2 v sim) gate in (
       length-set c.loop-gate.frame s.0 c.gate_bit.result ∙ c.loop-gate.invariant.0,
       λ v sim x before. set-right v c.args.cycle c.loop-gate.frame s c.gate_bit.result there (right v sim ∙ ap (λ y. v (cell_at c.args.cycle y)) at) x (c.loop-gate.invariant.1 v sim x before),

@@ -2,6 +2,7 @@ use Rattle.std.proofs.Common.{◌≡◌, ◌<◌, false, length, get_or, arith, 
 use Rattle.std.proofs.lemmas.List.{with_items_is}
 use Rattle.std.proofs.lemmas.List.Elements.{All-get_or}
 use Rattle.sr_model.specs.declared.cells.Sig.{Sig}
+use Rattle.cycle_sim.specs.BitTable.{bit_in}
 use Rattle.cycle_sim.specs.Frames.{in_frame}
 use Rattle.cycle_sim.proofs.FrameSteps.{state-start, kept-more}
 use Rattle.cycle_sim.proofs.cycles.simulated_bits.Goals as goal
@@ -13,7 +14,7 @@ loop-cycle-init c = (
   c.in_ok-row.ensures.size,
   c.in_ok-bits.ensures.width,
   c.in_ok-bits.ensures.count ∙ c.cycles.ensures.value,
-  λ _ v sim j h. state-start c.args.n.now c.args.s.now v sim c.in_ok-state.state.items c.in_ok-state.ensures.zero j h,
+  λ _ v sim j h. state-start c.args.n.now c.args.s.now.count (bit_in c.args.s.now) v sim c.in_ok-state.state.items c.in_ok-state.ensures.zero j h,
   λ v sim d j h. absurd (omega (arith, h)),
 )
 

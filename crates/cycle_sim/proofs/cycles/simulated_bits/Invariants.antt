@@ -11,4 +11,4 @@ abbrev pub invariant-loop-cycle : goal.invariant-loop-cycle
 invariant-loop-cycle l =
     (length l.frame.items ≡ length l.n.drivers) × (length l.state.items ≡ length (flip_flops l.n.drivers)) × (length l.row.items ≡ length l.kept)
     × (l.bits.width ≡ length l.kept) × (l.bits.count ≡ l.s.count) × (l.cycle < l.s.count → IsState l.n l.s l.cycle l.state.items)
-    × ((v : Valuation) → IsSimulated l.n l.s v → (c j : ℕ) → c < l.cycle → j < length l.kept → bit_in l.bits c j ≡ v (cell_at c (get_or l.kept j (record { 0 = 0 }))))
+    × ((v : Valuation) → IsSimulated l.n l.s.count (bit_in l.s) v → (c j : ℕ) → c < l.cycle → j < length l.kept → bit_in l.bits c j ≡ v (cell_at c (get_or l.kept j (record { 0 = 0 }))))

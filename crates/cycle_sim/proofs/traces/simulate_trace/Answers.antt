@@ -5,13 +5,13 @@ use Rattle.sr_model.specs.Netlist.{Valuation}
 use Rattle.dump_reader.specs.Recording.{bit_of, row_of}
 use Rattle.cycle_sim.specs.BitTable.{bit_in}
 use Rattle.cycle_sim.specs.Simulation.{IsSimulated, traced_rows}
-use Rattle.cycle_sim.proofs.Existing.{exists}
+use Rattle.cycle_sim.proofs.lemmas.Simulations.{simulation_exists}
 use Rattle.cycle_sim.proofs.Tracing.{cells-size, row-is, rows-more, new-signal}
 use Rattle.cycle_sim.proofs.traces.simulate_trace.Goals as goal
 
 pub add_row-requires-clause-new_signal : goal.add_row-requires-clause-new_signal
 add_row-requires-clause-new_signal c =
-    let e : (v : Valuation) × IsSimulated c.args.n.now c.args.s.now v = exists c.args.n.now c.in_ok-bits.ensures.circuit.0 c.args.s.now in
+    let e : (v : Valuation) × IsSimulated c.args.n.now c.args.s.now.count (bit_in c.args.s.now) v = simulation_exists c.args.n.now c.in_ok-bits.ensures.circuit.0 c.args.s.now.count (bit_in c.args.s.now) in
     new-signal e.0 c.args.s.now.count c.args.sigs.now c.loop-j.j (record { 0 = 0 }) c.loop-j.dump.rows c.loop-j-test.true c.requires.once (c.loop-j.invariant.1 e.0 e.1)
 
 pub add_row-requires-clause-full : goal.add_row-requires-clause-full
@@ -31,5 +31,5 @@ loop-j-preserved c = (
 
 pub returns-clause-rows : goal.returns-clause-rows
 returns-clause-rows c =
-    let e : (v : Valuation) × IsSimulated c.args.n.now c.args.s.now v = exists c.args.n.now c.in_ok-bits.ensures.circuit.0 c.args.s.now in
+    let e : (v : Valuation) × IsSimulated c.args.n.now c.args.s.now.count (bit_in c.args.s.now) v = simulation_exists c.args.n.now c.in_ok-bits.ensures.circuit.0 c.args.s.now.count (bit_in c.args.s.now) in
     (e.0, e.1, c.loop-j.invariant.1 e.0 e.1 ∙ ap (traced_rows e.0 c.args.s.now.count) (take_all c.loop-j.j c.args.sigs.now c.loop-j-test.false))

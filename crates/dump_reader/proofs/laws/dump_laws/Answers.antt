@@ -1,5 +1,6 @@
 use Rattle.dump_reader.proofs.SameRows.{one_reading, spells_recording}
 use Rattle.dump_reader.proofs.RefusedOnce.{one_refusal, not_both}
+use Rattle.dump_reader.proofs.ReadOrRefused.{read_or_refused}
 use Rattle.dump_reader.proofs.Literals.{literals_of_rows}
 use Rattle.dump_reader.proofs.ReadBack.{read_back}
 use Rattle.dump_reader.proofs.laws.dump_laws.Goals as goal
@@ -21,3 +22,6 @@ returns-clause-read_back c = read_back
 
 pub returns-clause-literals : goal.returns-clause-literals
 returns-clause-literals c = literals_of_rows
+
+pub returns-clause-read_or_refused : goal.returns-clause-read_or_refused
+returns-clause-read_or_refused c = read_or_refused

@@ -1,4 +1,4 @@
-use Rattle.std.proofs.Common.{ℕ, ◌≡◌, ◌<◌, ◌≤◌, Bool, length, get_or}
+use Rattle.std.proofs.Common.{ℕ, ◌≡◌, ◌<◌, Bool, length, get_or}
 use Rattle.unroll.specs.Bits.{is_set, word_for}
 use Rattle.gate_rules.specs.Lanes.{words_at}
 use Rattle.gate_rules.specs.FlipFlopBits.{is_bit_of}
@@ -7,6 +7,6 @@ use Rattle.gate_rules.proofs.flip_flops.force_flip_flop.Given as goal
 abbrev pub invariant-loop-place : goal.invariant-loop-place
 invariant-loop-place l = record {
   size : length l.out.items ≡ length l.blocks.items;
-  room : l.initial.out.room ≤ l.out.room;
+  room : l.out.room ≡ l.initial.out.room;
   done : (j : ℕ) → j < l.place → (i : ℕ) (bit : Bool) → i < 64 → is_set (word_for bit (words_at l.out.items j)) i ≡ is_bit_of l.cells (get_or l.block-items j (record { 0 = 0 })) (word_for bit l.shared) i;
 }

@@ -1,4 +1,4 @@
-use Rattle.std.proofs.Common.{◌≡◌, ℕ, Some, List, length, sym, ap, ◌∙◌, subst}
+use Rattle.std.proofs.Common.{◌≡◌, ◌&&◌, ℕ, Some, List, length, bit_and, sym, ap, ◌∙◌, subst}
 use Rattle.sr_model.specs.declared.cells.Sig.{Sig}
 use Rattle.sr_model.specs.Netlist.{Driver}
 use Rattle.netlist.specs.Circuit.{Circuit}
@@ -6,8 +6,10 @@ use Rattle.netlist.specs.Wiring.{driver_at, kind_of, pins_of, pin_parities}
 use Rattle.unroll.specs.declared.problem.Block.{Block}
 use Rattle.unroll.specs.declared.words.PinWord.{PinWord}
 use Rattle.unroll.specs.Problem.{Unrolling, block_at}
+use Rattle.unroll.specs.Bits.{is_set}
 use Rattle.unroll.specs.Tasks.{task_at}
-use Rattle.gate_rules.specs.Forced.{IsForcedExactly}
+use Rattle.unroll.proofs.WordBits.{is_set_and}
+use Rattle.gate_rules.specs.Forced.{IsForcedExactlyIn}
 use Rattle.gate_rules.proofs.GateLanes.{kind-driver, count-odd, own-block}
 use Rattle.gate_rules.proofs.GateForced.{place-within, place-at, and_like-task, parity-task}
 use Rattle.gate_rules.proofs.gates.force_gate.Goals as goal
@@ -34,11 +36,12 @@ returns-in-AndLike-clause-forced c =
     let kind : kind_of (driver_at c.args.p.now.circuit.drivers c.args.target.0) ≡ Some c.gate_kind.result =
     subst (λ (n : Circuit). kind_of (driver_at n.drivers c.args.target.0) ≡ Some c.gate_kind.result) circuit c.gate_kind.ensures in
     let size : length c.as_slice-in-AndLike.result.now ≡ length c.args.blocks.now.items = ap length c.as_slice-in-AndLike.ensures ∙ c.requires.view in
-    subst (λ (words : List PinWord). IsForcedExactly u (task_at u target c.args.chunk) blocks words c.force_and_like.new.out.items) c.as_slice-in-AndLike.ensures
+    subst (λ (words : List PinWord). IsForcedExactlyIn u (task_at u target c.args.chunk) c.args.mask blocks words c.force_and_like.new.out.items) c.as_slice-in-AndLike.ensures
     (and_like-task u c.net-net.ensures.problem target c.args.chunk c.requires.chunk c.gate_kind.result (pins_of driver) (kind-driver driver c.gate_kind.result kind) c.requires.gate
     blocks c.requires.blocks place (place-within c.as_slice.result.now blocks place c.as_slice.ensures c.place_of-place.ensures.within)
     (place-at c.as_slice.result.now blocks place c.block.result (block_at u target c.args.chunk) c.as_slice.ensures c.block.ensures.block c.place_of-place.ensures.at)
-    view c.force_and_like.new.out.items size c.valid_bits-valid.result c.valid_bits-valid.ensures c.force_and_like.ensures.invalid
+    c.args.mask view c.force_and_like.new.out.items size (bit_and c.valid_bits.result c.args.mask)
+    (λ k h. is_set_and c.valid_bits.result c.args.mask k ∙ ap (λ b. b && is_set c.args.mask k) (c.valid_bits.ensures k h)) c.force_and_like.ensures.invalid
     c.in-AndLike.gate.pins c.in-AndLike.gate.target c.in-AndLike.ensures c.force_and_like.ensures.forced)
 
 pub returns-in-Parity-clause-forced : goal.returns-in-Parity-clause-forced
@@ -53,9 +56,10 @@ returns-in-Parity-clause-forced c =
     let kind : kind_of (driver_at c.args.p.now.circuit.drivers c.args.target.0) ≡ Some c.gate_kind.result =
     subst (λ (n : Circuit). kind_of (driver_at n.drivers c.args.target.0) ≡ Some c.gate_kind.result) circuit c.gate_kind.ensures in
     let size : length c.as_slice-in-Parity.result.now ≡ length c.args.blocks.now.items = ap length c.as_slice-in-Parity.ensures ∙ c.requires.view in
-    subst (λ (words : List PinWord). IsForcedExactly u (task_at u target c.args.chunk) blocks words c.force_parity.new.out.items) c.as_slice-in-Parity.ensures
+    subst (λ (words : List PinWord). IsForcedExactlyIn u (task_at u target c.args.chunk) c.args.mask blocks words c.force_parity.new.out.items) c.as_slice-in-Parity.ensures
     (parity-task u c.net-net.ensures.problem target c.args.chunk c.requires.chunk c.gate_kind.result (pins_of driver) (kind-driver driver c.gate_kind.result kind) c.requires.gate
     blocks c.requires.blocks place (place-within c.as_slice.result.now blocks place c.as_slice.ensures c.place_of-place.ensures.within)
     (place-at c.as_slice.result.now blocks place c.block.result (block_at u target c.args.chunk) c.as_slice.ensures c.block.ensures.block c.place_of-place.ensures.at)
-    view c.force_parity.new.out.items size c.valid_bits-valid.result c.valid_bits-valid.ensures c.force_parity.ensures.invalid
+    c.args.mask view c.force_parity.new.out.items size (bit_and c.valid_bits.result c.args.mask)
+    (λ k h. is_set_and c.valid_bits.result c.args.mask k ∙ ap (λ b. b && is_set c.args.mask k) (c.valid_bits.ensures k h)) c.force_parity.ensures.invalid
     c.in-Parity.inverted c.pin_parities-odd.result.now (c.pin_parities-odd.ensures ∙ ap (λ (n : Circuit). pin_parities n.drivers target) circuit) c.in-Parity.ensures c.force_parity.ensures.forced)

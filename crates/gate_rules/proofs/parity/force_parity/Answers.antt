@@ -30,7 +30,7 @@ loop-j-preserved c =
     ∙ ap (λ b. place_bit inverted lane (counted target odd view) (counts target odd j) b (words_at view j) bit) c.odd_bits_of-tally.ensures.lone) in
     record {
       size = ap length items ∙ length-set out j words ∙ size;
-      room = omega (arith, c.loop-j.invariant.room, c.set.ensures.room);
+      room = c.set.ensures.room ∙ c.loop-j.invariant.room;
       done = λ k lane bit below within. ap (λ (ws : List PinWord). is_set (word_for bit (words_at ws k)) lane) items ∙ elim (cases_eq k j) [
         | inl e ↦ subst (λ n. is_set (word_for bit (words_at (set out j words) n)) lane ≡ (parity_bit inverted target odd view lane n bit && is_set valid lane)) (sym e)
             (ap (λ w. is_set (word_for bit w) lane) (get_or-set_same out j words (record { zero = 0; one = 0 }) (omega arith)) ∙ here lane bit within)

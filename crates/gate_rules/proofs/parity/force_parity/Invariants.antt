@@ -1,4 +1,4 @@
-use Rattle.std.proofs.Common.{◌≡◌, ◌<◌, ◌≤◌, ◌&&◌, ℕ, Bool, length}
+use Rattle.std.proofs.Common.{◌≡◌, ◌<◌, ◌&&◌, ℕ, Bool, length}
 use Rattle.unroll.specs.Bits.{is_set, word_for}
 use Rattle.gate_rules.specs.Lanes.{words_at}
 use Rattle.gate_rules.specs.OddPlaces.{parity_bit}
@@ -7,7 +7,7 @@ use Rattle.gate_rules.proofs.parity.force_parity.Given as goal
 abbrev pub invariant-loop-j : goal.invariant-loop-j
 invariant-loop-j l = record {
   size : length l.out.items ≡ length l.view;
-  room : l.initial.out.room ≤ l.out.room;
+  room : l.out.room ≡ l.initial.out.room;
   done : (k lane : ℕ) (bit : Bool) → k < l.j → lane < 64
       → is_set (word_for bit (words_at l.out.items k)) lane ≡ (parity_bit l.inverted l.target l.odd l.view lane k bit && is_set l.valid lane);
 }

@@ -2,5 +2,5 @@ use Rattle.sr_model.specs.Declaration.{declared}
 use Rattle.netlist.proofs.Driving.{IsDrivenSoFar}
 use Rattle.netlist.proofs.numbers.drive.Given as goal
 
-abbrev pub invariant-loop-stated : goal.invariant-loop-stated
-invariant-loop-stated l = IsDrivenSoFar (declared l.s) l.names l.stated-index l.nodes.items l.first_pin
+abbrev pub invariant-loop-i : goal.invariant-loop-i
+invariant-loop-i l = IsDrivenSoFar (declared l.s) l.names l.i l.nodes.items l.first_pin

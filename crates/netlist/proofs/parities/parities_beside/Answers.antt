@@ -1,7 +1,8 @@
 use Rattle.std.proofs.Common.{◌≡◌, ◌+◌, ◌<◌, ◌++◌, length, map, take, drop, sym, ap, ◌∙◌, subst, arith}
 use Rattle.std.proofs.lemmas.List.{take_at, length-map}
 use Rattle.netlist.specs.Entries.{has_sig, is_odd_in}
-use Rattle.netlist.specs.Wiring.{pin_parities, drivers_from}
+use Rattle.netlist.specs.Wiring.{pin_parities}
+use Rattle.netlist.specs.Nodes.{drivers_from}
 use Rattle.netlist.proofs.OddPins.{Marked, Marked-more}
 use Rattle.netlist.proofs.PinSignals.{signals_of-within, signals_of-node, node_pins-within, node-parities}
 use Rattle.netlist.proofs.parities.parities_beside.Goals as goal

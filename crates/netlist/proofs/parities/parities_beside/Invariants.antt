@@ -1,5 +1,6 @@
 use Rattle.std.proofs.Common.{length}
-use Rattle.netlist.specs.Wiring.{pin_parities, drivers_from}
+use Rattle.netlist.specs.Wiring.{pin_parities}
+use Rattle.netlist.specs.Nodes.{drivers_from}
 use Rattle.netlist.proofs.OddPins.{Marked}
 use Rattle.netlist.proofs.parities.parities_beside.Given as goal
 

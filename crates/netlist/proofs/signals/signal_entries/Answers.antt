@@ -1,7 +1,8 @@
 use Rattle.std.proofs.Common.{◌≡◌, ◌+◌, length, take, drop, ◌++◌, sym, ap, ◌∙◌, subst, arith}
 use Rattle.std.proofs.lemmas.List.{take_at, length-map}
 use Rattle.netlist.specs.Entries.{has_sig}
-use Rattle.netlist.specs.Wiring.{driver_at, driver_of, drivers_from, has_signal}
+use Rattle.netlist.specs.Wiring.{driver_at, has_signal}
+use Rattle.netlist.specs.Nodes.{driver_of, drivers_from}
 use Rattle.netlist.proofs.EachItem.{Gathered, Gathered-more}
 use Rattle.netlist.proofs.SignalLists.{node-lists, lists-within, lists-of}
 use Rattle.netlist.proofs.signals.signal_entries.Goals as goal

@@ -1,5 +1,6 @@
 use Rattle.std.proofs.Common.{length}
-use Rattle.netlist.specs.Wiring.{driver_at, drivers_from, has_signal}
+use Rattle.netlist.specs.Wiring.{driver_at, has_signal}
+use Rattle.netlist.specs.Nodes.{drivers_from}
 use Rattle.netlist.proofs.EachItem.{Gathered}
 use Rattle.netlist.proofs.signals.signal_entries.Given as goal
 

@@ -1,6 +1,6 @@
 use Rattle.std.proofs.Common.{◌≡◌, length, ap, ◌∙◌, sym, arith, true, false}
 use Rattle.std.proofs.lemmas.List.{append-nil, length-map}
-use Rattle.netlist.specs.Wiring.{driver_of}
+use Rattle.netlist.specs.Nodes.{driver_of}
 use Rattle.netlist.proofs.FlipFlopList.{flip_flops_below, flip_flops-more}
 use Rattle.netlist.proofs.wiring.flip_flops_of.Goals as goal
 use Rattle.netlist.proofs.wiring.flip_flops_of.Goals.{then-is_flip_flop+in_ok-push, else-is_flip_flop}

@@ -1,6 +1,7 @@
 use Rattle.std.proofs.Common.{◌≡◌, ◌<◌, ◌^◌, ap, sym, subst, ◌∙◌}
 use Rattle.unroll.specs.declared.words.PinWord.{PinWord}
-use Rattle.known_planes.specs.Planes.{with_words, joined, HasNoFurtherBit}
+use Rattle.unroll.specs.Problem.{HasNoLaterBit}
+use Rattle.known_planes.specs.Planes.{with_words, joined}
 use Rattle.known_planes.proofs.DumpRows.{joined-none}
 use Rattle.plain_close.specs.Turns.{block_in}
 use Rattle.plain_close.proofs.NewLits.{new-lit}
@@ -13,11 +14,11 @@ returns-then-eq-clause-joins c =
     joins-same c.args.p.now c.args.at.sig c.args.at.chunk c.args.words c.args.next.now.planes c.requires.noted.of c.requires.inside.0 c.requires.inside.1 c.word_in_chunk-old.result c.word_in_chunk-old.ensures
     (sym c.union-new.ensures.joined ∙ same-words c.union-new.result c.word_in_chunk-old.result c.if-eq.ensures)
 
-pub set_in_chunk-requires-clause-no_further : goal.set_in_chunk-requires-clause-no_further
-set_in_chunk-requires-clause-no_further c =
-    subst (HasNoFurtherBit c.args.p.now c.args.at.chunk) (sym c.union-new.ensures.joined)
+pub set_in_chunk-requires-clause-no_later : goal.set_in_chunk-requires-clause-no_later
+set_in_chunk-requires-clause-no_later c =
+    subst (HasNoLaterBit c.args.p.now.cycles c.args.at.chunk) (sym c.union-new.ensures.joined)
     (joined-none c.args.p.now c.args.next.now.planes c.args.at.sig c.args.at.chunk c.word_in_chunk-old.result c.args.words c.requires.noted.of c.requires.inside.0 c.requires.inside.1
-    c.word_in_chunk-old.ensures c.requires.no_further)
+    c.word_in_chunk-old.ensures c.requires.no_later)
 
 pub returns-in_ok-push-clause-noted : goal.returns-in_ok-push-clause-noted
 returns-in_ok-push-clause-noted c =

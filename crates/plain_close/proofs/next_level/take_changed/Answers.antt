@@ -4,7 +4,7 @@ use Rattle.std.proofs.lemmas.Bool.{eqb-true, true≢false}
 use Rattle.std.proofs.lemmas.List.Elements.{All-get_or}
 use Rattle.plain_close.specs.declared.task_queues.InChunk.{InChunk}
 use Rattle.plain_close.specs.Turns.{IsInside}
-use Rattle.plain_close.proofs.Adding.{no_further-in}
+use Rattle.plain_close.proofs.Adding.{no_later-in}
 use Rattle.plain_close.proofs.NoClash.{no_clash-more}
 use Rattle.plain_close.proofs.Taking.{Takes, takes-more, takes-all, same-taken}
 use Rattle.plain_close.proofs.Waking.{wakes-then}
@@ -22,11 +22,11 @@ neither false n e = (refl, eqb-true n 0 (not_from (eqb n 0) e))
     not_from true h = refl
     not_from false h = absurd (true≢false h)
 
-pub join-requires-clause-no_further : goal.join-requires-clause-no_further
-join-requires-clause-no_further c =
+pub join-requires-clause-no_later : goal.join-requires-clause-no_later
+join-requires-clause-no_later c =
     let inside : IsInside c.args.p.now (get_or c.as_slice-at-items.result.now c.loop-at.at-index nowhere) =
     All-get_or (IsInside c.args.p.now) c.as_slice-at-items.result.now c.loop-at.at-index nowhere c.loop-at-test.true (subst (All (IsInside c.args.p.now)) (sym c.as_slice-at-items.ensures) c.requires.noted.inside) in
-    no_further-in c.args.p.now c.args.next.now.planes (get_or c.as_slice-at-items.result.now c.loop-at.at-index nowhere).sig (get_or c.as_slice-at-items.result.now c.loop-at.at-index nowhere).chunk
+    no_later-in c.args.p.now c.args.next.now.planes (get_or c.as_slice-at-items.result.now c.loop-at.at-index nowhere).sig (get_or c.as_slice-at-items.result.now c.loop-at.at-index nowhere).chunk
     c.word_in_chunk-words.result c.requires.noted.of inside.0 inside.1 c.word_in_chunk-words.ensures
 
 pub loop-at-preserved : goal.loop-at-preserved

@@ -1,13 +1,13 @@
 use Rattle.std.proofs.Common.{◌<◌, ap, subst, ◌∙◌, length}
 use Rattle.netlist.specs.Circuit.{Circuit}
 use Rattle.plain_close.proofs.Waking.{wakes-then}
-use Rattle.plain_close.proofs.Adding.{row-more, no_further-in}
+use Rattle.plain_close.proofs.Adding.{row-more, no_later-in}
 use Rattle.plain_close.proofs.plain_closer.add_chunk.Goals as goal
 
-pub join-requires-clause-no_further : goal.join-requires-clause-no_further
-join-requires-clause-no_further c =
+pub join-requires-clause-no_later : goal.join-requires-clause-no_later
+join-requires-clause-no_later c =
     let count = c.signals-number-end.ensures.count ∙ ap (λ (x : Circuit). length x.drivers) c.net.ensures.net in
-    no_further-in c.args.p.now c.args.added.now (record { 0 = c.loop-number.number }) c.args.chunk c.word_in_chunk.result c.requires.added
+    no_later-in c.args.p.now c.args.added.now (record { 0 = c.loop-number.number }) c.args.chunk c.word_in_chunk.result c.requires.added
     (subst (λ n. c.loop-number.number < n) count c.loop-number-test.true) c.requires.chunk c.word_in_chunk.ensures
 
 pub loop-number-preserved : goal.loop-number-preserved

@@ -1,8 +1,8 @@
 use Rattle.std.proofs.Common.{◌^◌, ◌<◌, ap, sym, subst, ◌∙◌}
 use Rattle.unroll.specs.declared.words.PinWord.{PinWord}
 use Rattle.unroll.specs.Bits.{is_set, word_for}
-use Rattle.unroll.specs.Problem.{block_at}
-use Rattle.known_planes.specs.Planes.{with_words, HasNoFurtherBit}
+use Rattle.unroll.specs.Problem.{block_at, HasNoLaterBit}
+use Rattle.known_planes.specs.Planes.{with_words}
 use Rattle.known_planes.proofs.DumpRows.{joined-none}
 use Rattle.plain_close.proofs.Waking.{joins-same, joins-new, wakes-new, falls-new, same-words, other-words}
 use Rattle.plain_close.proofs.turns.join.Goals as goal
@@ -12,11 +12,11 @@ returns-then-eq-clause-joins c =
     joins-same c.args.p.now c.args.sig c.args.chunk c.args.words c.args.planes.now c.requires.of c.requires.signal c.requires.chunk c.word_in_chunk-old.result c.word_in_chunk-old.ensures
     (sym c.union-new.ensures.joined ∙ same-words c.union-new.result c.word_in_chunk-old.result c.if-eq.ensures)
 
-pub set_in_chunk-requires-clause-no_further : goal.set_in_chunk-requires-clause-no_further
-set_in_chunk-requires-clause-no_further c =
-    subst (HasNoFurtherBit c.args.p.now c.args.chunk) (sym c.union-new.ensures.joined)
+pub set_in_chunk-requires-clause-no_later : goal.set_in_chunk-requires-clause-no_later
+set_in_chunk-requires-clause-no_later c =
+    subst (HasNoLaterBit c.args.p.now.cycles c.args.chunk) (sym c.union-new.ensures.joined)
     (joined-none c.args.p.now c.args.planes.now c.args.sig c.args.chunk c.word_in_chunk-old.result c.args.words c.requires.of c.requires.signal c.requires.chunk
-    c.word_in_chunk-old.ensures c.requires.no_further)
+    c.word_in_chunk-old.ensures c.requires.no_later)
 
 pub returns-clause-wakes : goal.returns-clause-wakes
 returns-clause-wakes c =

@@ -6,6 +6,6 @@ use Rattle.report.proofs.clash.write_clash.Goals as goal
 
 pub returns : goal.returns
 returns g c =
-    subst (Writes (g.K.Sink.written c.args.out.now) (g.K.Sink.written c.write_pieces.new.out) (g.K.Sink.room c.write_pieces.new.out) (g.K.Sink.faults c.args.out.now) (g.K.Sink.faults c.write_pieces.new.out) c.write_pieces.result)
+    subst (Writes g.K.Sink.written g.K.Sink.room g.K.Sink.faults c.args.out.now c.write_pieces.new.out c.write_pieces.result)
     (clash_joined c.args.n.now c.args.cell c.name.result.now c.as_bytes.result.now (sym (get_or_from_slice_get c.args.n.now.names c.args.cell.sig.0 c.name.result.now [] c.name.ensures)) (c.as_bytes.ensures.value ∙ c.format-digits.ensures.text))
     c.write_pieces.ensures

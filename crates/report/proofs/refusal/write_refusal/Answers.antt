@@ -6,15 +6,15 @@ use Rattle.report.proofs.refusal.write_refusal.Goals as goal
 
 pub returns-in-TraceUnknown : goal.returns-in-TraceUnknown
 returns-in-TraceUnknown g c =
-    subst (Writes (g.K.Sink.written c.args.out.now) (g.K.Sink.written c.write_name.new.out) (g.K.Sink.room c.write_name.new.out) (g.K.Sink.faults c.args.out.now) (g.K.Sink.faults c.write_name.new.out) c.write_name.result)
+    subst (Writes g.K.Sink.written g.K.Sink.room g.K.Sink.faults c.args.out.now c.write_name.new.out c.write_name.result)
     (ap (refusal_line (map string_bytes c.args.words.now)) (sym c.in-TraceUnknown.is)) c.write_name.ensures
 
 pub returns-in-TraceTwice : goal.returns-in-TraceTwice
 returns-in-TraceTwice g c =
-    subst (Writes (g.K.Sink.written c.args.out.now) (g.K.Sink.written c.write_name-in-TraceTwice.new.out) (g.K.Sink.room c.write_name-in-TraceTwice.new.out) (g.K.Sink.faults c.args.out.now) (g.K.Sink.faults c.write_name-in-TraceTwice.new.out) c.write_name-in-TraceTwice.result)
+    subst (Writes g.K.Sink.written g.K.Sink.room g.K.Sink.faults c.args.out.now c.write_name-in-TraceTwice.new.out c.write_name-in-TraceTwice.result)
     (ap (refusal_line (map string_bytes c.args.words.now)) (sym c.in-TraceTwice.is)) c.write_name-in-TraceTwice.ensures
 
 pub returns-in-NoMemory : goal.returns-in-NoMemory
 returns-in-NoMemory g c =
-    subst (Writes (g.K.Sink.written c.args.out.now) (g.K.Sink.written c.write_text.new.out) (g.K.Sink.room c.write_text.new.out) (g.K.Sink.faults c.args.out.now) (g.K.Sink.faults c.write_text.new.out) c.write_text.result)
+    subst (Writes g.K.Sink.written g.K.Sink.room g.K.Sink.faults c.args.out.now c.write_text.new.out c.write_text.result)
     (ap (refusal_line (map string_bytes c.args.words.now)) (sym c.in-NoMemory.is)) c.write_text.ensures

@@ -8,6 +8,6 @@ use Rattle.report.proofs.table.write_head.Goals as goal
 
 pub returns : goal.returns
 returns g c =
-    subst (Writes (g.K.Sink.written c.args.out.now) (g.K.Sink.written c.write_pieces.new.out) (g.K.Sink.room c.write_pieces.new.out) (g.K.Sink.faults c.args.out.now) (g.K.Sink.faults c.write_pieces.new.out) c.write_pieces.result)
+    subst (Writes g.K.Sink.written g.K.Sink.room g.K.Sink.faults c.args.out.now c.write_pieces.new.out c.write_pieces.result)
     (ap (λ digits. codes "srdump 1\ncycles " ++ (digits ++ 10 ∷ [])) (front_of (decimal c.from.result) _ _ _ c.write_u64-len.ensures.len c.write_u64-len.ensures.text) ∙ ap head_text (c.from.ensures ∙ c.cycles.ensures))
     c.write_pieces.ensures

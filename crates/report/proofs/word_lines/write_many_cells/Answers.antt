@@ -5,5 +5,5 @@ use Rattle.report.proofs.word_lines.write_many_cells.Goals as goal
 
 pub returns : goal.returns
 returns g c =
-    subst (Writes (g.K.Sink.written c.args.out.now) (g.K.Sink.written c.write_pieces.new.out) (g.K.Sink.room c.write_pieces.new.out) (g.K.Sink.faults c.args.out.now) (g.K.Sink.faults c.write_pieces.new.out) c.write_pieces.result)
+    subst (Writes g.K.Sink.written g.K.Sink.room g.K.Sink.faults c.args.out.now c.write_pieces.new.out c.write_pieces.result)
     (ap (λ digits. codes "srestore: words: 17 too many cells " ++ digits ++ codes "\n") (c.as_bytes.ensures.value ∙ c.format-digits.ensures.text)) c.write_pieces.ensures

@@ -11,5 +11,5 @@ returns-in-Number g c =
     let there : HasKey (map string_bytes c.args.words.now) c.in-Number.place = subst (WordIsThere (map string_bytes c.args.words.now)) c.in-Number.is c.requires in
     let word : c.as_str.result.now ≡ word_at (map string_bytes c.args.words.now) c.in-Number.place = word_read string_bytes c.args.words.now c.in-Number.place c.index-words-place.result c.as_str.result.now there c.index-words-place.is c.as_str.ensures.value in
     let key : c.as_bytes.result.now ≡ key_of (word_at (map string_bytes c.args.words.now) c.in-Number.place) = c.as_bytes.ensures.value ∙ c.key_of-key.ensures ∙ ap key_of word in
-    subst (Writes (g.K.Sink.written c.args.out.now) (g.K.Sink.written c.write_pieces.new.out) (g.K.Sink.room c.write_pieces.new.out) (g.K.Sink.faults c.args.out.now) (g.K.Sink.faults c.write_pieces.new.out) c.write_pieces.result)
+    subst (Writes g.K.Sink.written g.K.Sink.room g.K.Sink.faults c.args.out.now c.write_pieces.new.out c.write_pieces.result)
     (ap (λ k. codes "srestore: words: 23 number " ++ k ++ codes "\n") key ∙ ap (word_line (map string_bytes c.args.words.now)) (sym c.in-Number.is)) c.write_pieces.ensures

@@ -1,6 +1,10 @@
 use Rattle.restore_program.proofs.OneAnswer.{one_answer, accepted_is_answered, printable_is_printed, traceable_is_traced}
 use Rattle.restore_program.proofs.SimulatedTraces.{trace_is_simulated}
+use Rattle.restore_program.proofs.AnswerExists.{answer_exists}
 use Rattle.restore_program.proofs.laws.answer_laws.Goals as goal
+
+pub returns-clause-exists : goal.returns-clause-exists
+returns-clause-exists c = answer_exists
 
 pub returns-clause-one_answer : goal.returns-clause-one_answer
 returns-clause-one_answer c = one_answer

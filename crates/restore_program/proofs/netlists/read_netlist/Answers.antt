@@ -2,7 +2,8 @@ use Rattle.std.proofs.Common.{sym, subst}
 use Rattle.std.specs.Prelude.{IfSome}
 use Rattle.report.specs.declared.refusal.Part.TheVariants as parts
 use Rattle.restore_program.specs.declared.reply.Reply.TheVariants as replies
-use Rattle.restore_program.specs.Answer.{IsOfWords, OnRefused, Replies}
+use Rattle.restore_program.specs.Answer.{OnRefused}
+use Rattle.restore_program.specs.ReplyAnswers.{IsOfWords, Replies}
 use Rattle.restore_program.specs.Reply.{IsReady}
 use Rattle.restore_program.proofs.Answering.{unread_input, unread_netlist, unread_ready}
 use Rattle.restore_program.proofs.netlists.read_netlist.Goals as goal

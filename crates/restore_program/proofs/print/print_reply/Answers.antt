@@ -1,4 +1,5 @@
-use Rattle.restore_program.specs.Answer.{IsNetlistFault, OnPrint}
+use Rattle.restore_program.specs.Answer.{OnPrint}
+use Rattle.restore_program.specs.Faults.{IsNetlistFault}
 use Rattle.restore_program.proofs.Answering.{netlist_read, netlist_refused, no_faults, printed_now, printed_plain, told_or_not}
 use Rattle.restore_program.proofs.print.print_reply.Goals as goal
 

@@ -6,5 +6,5 @@ use Rattle.restore_program.proofs.reply.write_known.Goals as goal
 
 pub returns : goal.returns
 returns g c =
-    subst (λ u. Writes (g.K.Sink.written c.args.out.now) (g.K.Sink.written c.write_table.new.out) (g.K.Sink.room c.write_table.new.out) (g.K.Sink.faults c.args.out.now) (g.K.Sink.faults c.write_table.new.out) c.write_table.result
+    subst (λ u. Writes g.K.Sink.written g.K.Sink.room g.K.Sink.faults c.args.out.now c.write_table.new.out c.write_table.result
     (table_text u.circuit u.cycles (has u c.args.table.now.planes) c.args.table.now.traced c.args.table.now.all)) c.new-problem.ensures c.write_table.ensures

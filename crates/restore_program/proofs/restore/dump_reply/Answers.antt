@@ -2,7 +2,9 @@ use Rattle.std.proofs.Common.{sym, subst}
 use Rattle.std.specs.Prelude.{IfSome}
 use Rattle.report.specs.declared.refusal.Part.TheVariants as parts
 use Rattle.restore_program.specs.declared.reply.Reply.TheVariants as replies
-use Rattle.restore_program.specs.Answer.{DumpAnswer, IsDumpFault, IsOfWords, OnDump, OnFaultRefusal, Replies}
+use Rattle.restore_program.specs.Answer.{DumpAnswer, OnDump}
+use Rattle.restore_program.specs.Faults.{IsDumpFault}
+use Rattle.restore_program.specs.ReplyAnswers.{IsOfWords, OnFaultRefusal, Replies}
 use Rattle.restore_program.specs.Reply.{IsReady}
 use Rattle.restore_program.proofs.Answering.{held_dump, unread_dump, unread_faults, unread_input, unread_ready, no_faults}
 use Rattle.restore_program.proofs.restore.dump_reply.Goals as goal

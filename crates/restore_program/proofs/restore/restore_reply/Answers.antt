@@ -1,7 +1,9 @@
 use Rattle.std.proofs.Common.{List, ℕ, Bool, Option, subst}
 use Rattle.std.specs.Prelude.{IfSome}
 use Rattle.sr_outside.specs.Told.{Held}
-use Rattle.restore_program.specs.Answer.{DumpAnswer, IsNetlistFault, IsDumpFault, IsRestoreFault, OnFault, Replies}
+use Rattle.restore_program.specs.Answer.{DumpAnswer}
+use Rattle.restore_program.specs.Faults.{IsNetlistFault, IsDumpFault, IsRestoreFault}
+use Rattle.restore_program.specs.ReplyAnswers.{OnFault, Replies}
 use Rattle.restore_program.proofs.Answering.{netlist_read, netlist_refused, faults_also, netlist_fault_of, dump_fault_of}
 use Rattle.restore_program.proofs.restore.restore_reply.Goals as goal
 

@@ -3,7 +3,7 @@ use Rattle.dump_reader.specs.Grammar.{block_count}
 use Rattle.report.specs.Refusals.{many_cells_line}
 use Rattle.restore_program.specs.Tracing.{IsTraceText, OnTrace, many_cells, traced}
 use Rattle.restore_program.specs.declared.status.Status.TheVariants as statuses
-use Rattle.restore_program.specs.Answer.{IsFault, Replies}
+use Rattle.restore_program.specs.ReplyAnswers.{IsFault, Replies}
 use Rattle.restore_program.specs.Reply.{IsReady}
 use Rattle.restore_program.specs.declared.reply.Reply.TheVariants as replies
 use Rattle.restore_program.proofs.Answering.{trace_no_fault, trace_ready, trace_refused}

@@ -2,72 +2,78 @@ use Rattle.std.proofs.Common.{◌≡◌, List, ℕ, Option, map, sym, subst, ◌
 use Rattle.std.specs.Prelude.{IfSome}
 use Rattle.std.specs.String.{string_bytes}
 use Rattle.sr_outside.specs.Told.{Held}
-use Rattle.restore_program.specs.Answer.{IsPlain, Says}
+use Rattle.restore_program.specs.Says.{Says}
+use Rattle.restore_program.specs.Status.{IsPlain}
 use Rattle.restore_program.specs.Reply.{status_of, text_of}
 use Rattle.restore_program.specs.Sound.{IsAccepted, IsPrintable, IsTableOrClash, IsTraceable}
 use Rattle.restore_program.specs.declared.status.Status.TheVariants as statuses
 use Rattle.restore_program.proofs.Answering.{says}
 use Rattle.restore_program.proofs.Sounding.{again_reply, clash_reply, finishes, prints, sound_reply, traces}
+use Rattle.restore_program.proofs.WordStatuses.{status_of_words}
 use Rattle.restore_program.proofs.top.run.Goals as goal
 
 pub returns-in-Ok-clause-answer : goal.returns-in-Ok-clause-answer
 returns-in-Ok-clause-answer g c _ =
     let words : List (List ℕ) = map string_bytes c.args.words.now in
     let told : Option Held = g.I.Inputs.held c.args.inputs.now in (
-      text_of words c.reply_to-reply.result,
-      c.in-Ok.ensures.written,
-      subst (Says words told (g.I.Inputs.shaky c.args.inputs.now) (text_of words c.reply_to-reply.result)) (sym c.reply_status-status.ensures)
-          (says words told (g.I.Inputs.shaky c.args.inputs.now) c.reply_to-reply.result c.reply_to-reply.ensures.answer c.reply_to-reply.ensures.fault_of),
+      text_of words c.prepared_reply-reply.result.reply,
+      c.in-Ok.ensures.appended,
+      subst (Says words told (g.I.Inputs.shaky c.args.inputs.now) (text_of words c.prepared_reply-reply.result.reply)) (sym c.reply_status-status.ensures)
+          (says words told (g.I.Inputs.shaky c.args.inputs.now) c.prepared_reply-reply.result.reply c.prepared_reply-reply.ensures.answer c.prepared_reply-reply.ensures.fault_of),
     )
 
 pub returns-in-Ok-clause-sound : goal.returns-in-Ok-clause-sound
 returns-in-Ok-clause-sound g c e asks = (
-  text_of (map string_bytes c.args.words.now) c.reply_to-reply.result,
-  c.in-Ok.ensures.written,
-  sound_reply (map string_bytes c.args.words.now) c.reply_to-reply.result (g.I.Inputs.held c.args.inputs.now) asks c.reply_to-reply.ensures.answer (sym c.reply_status-status.ensures ∙ e),
+  text_of (map string_bytes c.args.words.now) c.prepared_reply-reply.result.reply,
+  c.in-Ok.ensures.appended,
+  sound_reply (map string_bytes c.args.words.now) c.prepared_reply-reply.result.reply (g.I.Inputs.held c.args.inputs.now) asks c.prepared_reply-reply.ensures.answer (sym c.reply_status-status.ensures ∙ e),
 )
 
 pub returns-in-Ok-clause-again : goal.returns-in-Ok-clause-again
 returns-in-Ok-clause-again g c e asks = (
-  text_of (map string_bytes c.args.words.now) c.reply_to-reply.result,
-  c.in-Ok.ensures.written,
-  again_reply (map string_bytes c.args.words.now) c.reply_to-reply.result (g.I.Inputs.held c.args.inputs.now) asks c.reply_to-reply.ensures.answer (sym c.reply_status-status.ensures ∙ e),
+  text_of (map string_bytes c.args.words.now) c.prepared_reply-reply.result.reply,
+  c.in-Ok.ensures.appended,
+  again_reply (map string_bytes c.args.words.now) c.prepared_reply-reply.result.reply (g.I.Inputs.held c.args.inputs.now) asks c.prepared_reply-reply.ensures.answer (sym c.reply_status-status.ensures ∙ e),
 )
 
 pub returns-in-Ok-clause-contradiction : goal.returns-in-Ok-clause-contradiction
 returns-in-Ok-clause-contradiction g c e =
-    clash_reply (map string_bytes c.args.words.now) c.reply_to-reply.result (g.I.Inputs.held c.args.inputs.now) c.reply_to-reply.ensures.answer (sym c.reply_status-status.ensures ∙ e)
+    clash_reply (map string_bytes c.args.words.now) c.prepared_reply-reply.result.reply (g.I.Inputs.held c.args.inputs.now) c.prepared_reply-reply.ensures.answer (sym c.reply_status-status.ensures ∙ e)
 
 pub returns-in-Ok-clause-accepted : goal.returns-in-Ok-clause-accepted
 returns-in-Ok-clause-accepted g c =
     let words : List (List ℕ) = map string_bytes c.args.words.now in
     subst (λ status. IfSome (g.I.Inputs.held c.args.inputs.now) (λ held. IsAccepted words held → IsPlain status → IsTableOrClash status)) (sym c.reply_status-status.ensures)
-    (finishes words c.reply_to-reply.result (g.I.Inputs.held c.args.inputs.now) c.reply_to-reply.ensures.answer)
+    (finishes words c.prepared_reply-reply.result.reply (g.I.Inputs.held c.args.inputs.now) c.prepared_reply-reply.ensures.answer)
 
 pub returns-in-Ok-clause-printed : goal.returns-in-Ok-clause-printed
 returns-in-Ok-clause-printed g c =
     let words : List (List ℕ) = map string_bytes c.args.words.now in
     subst (λ status. IfSome (g.I.Inputs.held c.args.inputs.now) (λ held. IsPrintable words held → IsPlain status → status ≡ statuses.Done)) (sym c.reply_status-status.ensures)
-    (prints words c.reply_to-reply.result (g.I.Inputs.held c.args.inputs.now) c.reply_to-reply.ensures.answer)
+    (prints words c.prepared_reply-reply.result.reply (g.I.Inputs.held c.args.inputs.now) c.prepared_reply-reply.ensures.answer)
 
 pub returns-in-Ok-clause-traced : goal.returns-in-Ok-clause-traced
 returns-in-Ok-clause-traced g c =
     let words : List (List ℕ) = map string_bytes c.args.words.now in
     subst (λ status. IfSome (g.I.Inputs.held c.args.inputs.now) (λ held. IsTraceable words held → IsPlain status → status ≡ statuses.Done)) (sym c.reply_status-status.ensures)
-    (traces words c.reply_to-reply.result (g.I.Inputs.held c.args.inputs.now) c.reply_to-reply.ensures.answer)
+    (traces words c.prepared_reply-reply.result.reply (g.I.Inputs.held c.args.inputs.now) c.prepared_reply-reply.ensures.answer)
+
+pub returns-in-Ok-clause-usage : goal.returns-in-Ok-clause-usage
+returns-in-Ok-clause-usage g c e =
+    c.prepared_reply-reply.ensures.of_words (status_of_words c.prepared_reply-reply.result.reply (sym c.reply_status-status.ensures ∙ e))
 
 pub returns-in-Ok-clause-refused : goal.returns-in-Ok-clause-refused
 returns-in-Ok-clause-refused g c refused =
-    let is = c.reply_to-reply.ensures.refused refused in
-    (inl (c.reply_status-status.ensures ∙ is.0), is.1)
+    inl (c.reply_status-status.ensures ∙ c.prepared_reply-reply.ensures.refused refused)
 
 pub returns-clause-part : goal.returns-clause-part
 returns-clause-part g c _ = (
-  text_of (map string_bytes c.args.words.now) c.reply_to-reply.result,
-  status_of c.reply_to-reply.result,
+  text_of (map string_bytes c.args.words.now) c.prepared_reply-reply.result.reply,
+  status_of c.prepared_reply-reply.result.reply,
   c.in-Err.ensures.part,
-  says (map string_bytes c.args.words.now) (g.I.Inputs.held c.args.inputs.now) (g.I.Inputs.shaky c.args.inputs.now) c.reply_to-reply.result c.reply_to-reply.ensures.answer c.reply_to-reply.ensures.fault_of,
+  c.in-Err.ensures.lacks,
+  says (map string_bytes c.args.words.now) (g.I.Inputs.held c.args.inputs.now) (g.I.Inputs.shaky c.args.inputs.now) c.prepared_reply-reply.result.reply c.prepared_reply-reply.ensures.answer c.prepared_reply-reply.ensures.fault_of,
 )
 
 pub returns-clause-refused : goal.returns-clause-refused
-returns-clause-refused g c refused = (inr refl, (c.reply_to-reply.ensures.refused refused).1)
+returns-clause-refused g c refused = inr refl

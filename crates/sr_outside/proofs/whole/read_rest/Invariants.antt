@@ -1,5 +1,5 @@
 use Rattle.std.proofs.Common.{◌≡◌, ◌<◌, ◌≤◌, ◌-◌, true, length}
-use Rattle.std.specs.Io.KnownBytes.{prepend_known}
+use Rattle.std.specs.Io.KnownBytes.{Consumes}
 use Rattle.sr_outside.proofs.whole.read_rest.Given as goal
 
 abbrev pub invariant-loop-count : goal.invariant-loop-count
@@ -9,7 +9,7 @@ invariant-loop-count g l = record {
   within : length l.bytes.items ≤ l.limit;
   some : 0 < length l.piece.items;
   size : length l.piece.items ≤ 65536;
-  left : g.I.Inputs.left l.fn.inputs ≡ prepend_known l.bytes.items (g.I.Inputs.left l.inputs);
+  left : Consumes (g.I.Inputs.left l.fn.inputs) (g.I.Inputs.left l.inputs) l.bytes.items;
   starts : g.I.Inputs.starts l.inputs ≡ g.I.Inputs.starts l.fn.inputs;
   last : g.I.Inputs.last l.inputs ≡ g.I.Inputs.last l.fn.inputs;
   held : g.I.Inputs.held l.inputs ≡ g.I.Inputs.held l.fn.inputs;

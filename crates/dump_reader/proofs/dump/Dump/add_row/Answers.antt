@@ -1,7 +1,8 @@
 use Rattle.std.proofs.Common.{◌≡◌, ◌∷◌, ◌++◌, List, [], sym, ap, ◌∙◌, refl}
 use Rattle.sr_model.specs.declared.cells.Sig.{Sig}
 use Rattle.dump_reader.specs.declared.dump.Tri.{Tri}
-use Rattle.dump_reader.specs.Recording.{Recording, row_of, rows_of}
+use Rattle.dump_reader.specs.Recording.{Recording, row_of}
+use Rattle.dump_reader.specs.Kept.{rows_of}
 use Rattle.dump_reader.proofs.Rows.{kept_more, rows_of-push, sees_fresh, pushed}
 use Rattle.dump_reader.proofs.dump.Dump.add_row.Goals as goal
 

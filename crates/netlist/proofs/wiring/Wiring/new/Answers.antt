@@ -3,7 +3,8 @@ use Rattle.std.proofs.lemmas.List.Elements.{All-filter}
 use Rattle.std.specs.List.{All, filter}
 use Rattle.netlist.specs.declared.lists.Entry.{Entry}
 use Rattle.netlist.specs.Entries.{items_in, AreMarksOf}
-use Rattle.netlist.specs.Wiring.{readers, signals_of, pin_parities, flip_flops, drivers_from}
+use Rattle.netlist.specs.Wiring.{readers, signals_of, pin_parities, flip_flops}
+use Rattle.netlist.specs.Nodes.{drivers_from}
 use Rattle.netlist.proofs.OtherReaders.{is_other, differs, items_in-others}
 use Rattle.netlist.proofs.wiring.Wiring.new.Goals as goal
 

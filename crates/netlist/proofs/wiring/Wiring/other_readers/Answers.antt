@@ -1,6 +1,7 @@
 use Rattle.std.proofs.Common.{◌<◌, length, ap, ◌∙◌, arith}
 use Rattle.std.proofs.lemmas.List.{length-map}
-use Rattle.netlist.specs.Wiring.{driver_of, other_readers}
+use Rattle.netlist.specs.Wiring.{other_readers}
+use Rattle.netlist.specs.Nodes.{driver_of}
 use Rattle.netlist.proofs.wiring.Wiring.other_readers.Goals as goal
 
 pub returns : goal.returns

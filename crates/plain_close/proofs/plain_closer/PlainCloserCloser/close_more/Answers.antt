@@ -1,7 +1,7 @@
-use Rattle.std.proofs.Common.{◌⊎◌, ap, ◌∙◌, length, subst, sym}
-use Rattle.sr_model.specs.Closure.{SameLits}
+use Rattle.std.proofs.Common.{◌||◌, ap, ◌∙◌, length, subst, sym}
+use Rattle.sr_model.specs.Closure.{SameLits, passing}
 use Rattle.netlist.specs.Circuit.{Circuit}
-use Rattle.known_planes.specs.Planes.{PlaneSet, lits}
+use Rattle.known_planes.specs.Planes.{PlaneSet, has, lits}
 use Rattle.plain_close.specs.Turns.{IsSettled}
 use Rattle.plain_close.proofs.Adding.{no-tasks, settled-closed, still-settled, same-closed, added-lits}
 use Rattle.plain_close.proofs.plain_closer.PlainCloserCloser.close_more.Goals as goal
@@ -19,7 +19,7 @@ turn_all-requires-clause-settled g c =
 
 pub returns-clause-closure : goal.returns-clause-closure
 returns-clause-closure g c =
-    same-closed c.args.p.now c.turn_all.new.planes (lits c.args.p.now c.add_planes.new.planes) (λ l. lits c.args.p.now c.args.closed.now l ⊎ lits c.args.p.now c.args.added.now l)
-    (subst (λ (x : PlaneSet). SameLits (lits c.args.p.now c.add_planes.new.planes) (λ l. lits c.args.p.now x l ⊎ lits c.args.p.now c.args.added.now l)) c.in_ok-planes.ensures
+    same-closed c.args.p.now c.turn_all.new.planes (lits c.args.p.now c.add_planes.new.planes) (passing (λ l. has c.args.p.now c.args.closed.now l || has c.args.p.now c.args.added.now l))
+    (subst (λ (x : PlaneSet). SameLits (lits c.args.p.now c.add_planes.new.planes) (passing (λ l. has c.args.p.now x l || has c.args.p.now c.args.added.now l))) c.in_ok-planes.ensures
     (added-lits c.args.p.now c.in_ok-planes.planes c.args.added.now c.add_planes.new.planes c.in_ok-queues.queues c.add_planes.new.queues
     c.requires.added_of c.in_ok-add_planes.ensures.wakes c.in_ok-add_planes.ensures.adds)) c.in_ok-turn_all.ensures.closure

@@ -1,4 +1,4 @@
-use Rattle.std.proofs.Common.{◌≡◌, ◌≤◌, take}
+use Rattle.std.proofs.Common.{◌≡◌, take}
 use Rattle.std.specs.List.{flat_map}
 use Rattle.unroll.specs.Tasks.{blocks_for}
 use Rattle.unroll.proofs.problem.Problem.blocks_in_chunk.Given as goal
@@ -6,4 +6,4 @@ use Rattle.unroll.proofs.problem.Problem.blocks_in_chunk.Given as goal
 abbrev pub invariant-loop-signal : goal.invariant-loop-signal
 invariant-loop-signal l =
     (l.into.items ≡ flat_map (blocks_for l.self l.target l.chunk) (take l.signal-index l.signal-items))
-    × (l.initial.into.room ≤ l.into.room)
+    × (l.into.room ≡ l.initial.into.room)

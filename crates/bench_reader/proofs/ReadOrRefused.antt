@@ -1,0 +1,98 @@
+-- Each text is read or refused.
+use Rattle.std.proofs.Common.{◌≡◌, ◌≢◌, ◌⊎◌, ℕ, ◌+◌, ◌≤◌, List, [], ◌∷◌, ◌++◌, length, take, drop, Option, Some, None, refl, sym, subst, ◌∙◌, inl, inr, arith}
+use Rattle.std.specs.List.{list_all}
+use Rattle.std.proofs.lemmas.Bool.{cases_Bool, cases_eq, cases_lt, both_ways}
+use Rattle.sr_text.specs.Text.{cut_line}
+use Rattle.sr_model.specs.declared.gates.Kind.{Kind}
+use Rattle.sr_model.specs.declared.gates.Kind.TheVariants.{And, Nand, Or, Nor, Xor, Xnor, Not, Buf, Dff}
+use Rattle.sr_model.specs.Gate.{IsPinCount}
+use Rattle.sr_model.specs.Declaration.{Declaration, InputNamed, OutputNamed, DriverNamed}
+use Rattle.bench_reader.specs.declared.reader.BenchRefusal.{BenchRefusal}
+use Rattle.bench_reader.specs.declared.reader.BenchRefusal.TheVariants.{Syntax, NameLong, UnknownKind, WrongPins, NoMemory}
+use Rattle.bench_reader.specs.Grammar.{Form, InputForm, OutputForm, DriverForm, HasForm, kind_named, is_short, signal_names, HasRightPins, Declares, States, text_lines, Read, Spells}
+use Rattle.bench_reader.specs.Refusal.{IsRefusal, IsLineRefusal, IsFormRefusal}
+use Rattle.bench_reader.specs.Laws.{IsReadOrRefused}
+use Rattle.bench_reader.proofs.FormOrNone.{form_or_none}
+use Rattle.bench_reader.proofs.Lines.{line_refusal, states, next_line, read_skipped, read_stated, refusal_of, whole_read}
+
+many_or_not : (n : ℕ) → ((1 ≤ n) × (n ≤ 1024)) ⊎ ((1 ≤ n) × (n ≤ 1024) → ⊥)
+many_or_not n =
+    elim (cases_lt n 1) [
+      | inl none ↦ inr (λ h. omega (arith, h.0))
+      | inr some ↦ elim (cases_lt 1024 n) [ inl many ↦ inr (λ h. omega (arith, h.1)) | inr few ↦ inl (some, few) ]
+    ]
+
+pin_count_or_not : (kind : Kind) (n : ℕ) → IsPinCount kind n ⊎ (IsPinCount kind n → ⊥)
+pin_count_or_not Not n = cases_eq n 1
+pin_count_or_not Buf n = cases_eq n 1
+pin_count_or_not Dff n = cases_eq n 1
+pin_count_or_not And n = many_or_not n
+pin_count_or_not Nand n = many_or_not n
+pin_count_or_not Or n = many_or_not n
+pin_count_or_not Nor n = many_or_not n
+pin_count_or_not Xor n = many_or_not n
+pin_count_or_not Xnor n = many_or_not n
+
+-- a form declares something, or is bad in some way
+abbrev DeclaresOrBad : Form → ℕ → Type 0
+DeclaresOrBad form number = ((d : Declaration) × HasRightPins form × Declares form d) ⊎ ((r : BenchRefusal) × IsFormRefusal form number r × (r ≢ NoMemory))
+
+driver_declares : (target word : List ℕ) (pins : List (List ℕ)) (number : ℕ) (found : Option Kind) → kind_named word ≡ found → DeclaresOrBad (DriverForm target word pins) number
+driver_declares target word pins number None e = inr (UnknownKind number, (refl, λ known. known e), λ other. cc)
+driver_declares target word pins number (Some kind) e =
+    elim (pin_count_or_not kind (length pins)) [
+      | inl right ↦ inl (DriverNamed target kind pins, (λ k is. subst (λ j. IsPinCount j (length pins)) (let both = sym e ∙ is in let same : kind ≡ k = cc in same) right), (kind, e, refl))
+      | inr wrong ↦ inr (WrongPins number, (refl, (λ none. let both = sym e ∙ none in absurd cc), λ right. wrong (right kind e)), λ other. cc)
+    ]
+
+form_declares : (form : Form) (number : ℕ) → DeclaresOrBad form number
+form_declares (InputForm name) number = inl (InputNamed name, tt, refl)
+form_declares (OutputForm name) number = inl (OutputNamed name, tt, refl)
+form_declares (DriverForm target word pins) number = driver_declares target word pins number (kind_named word) refl
+
+-- a line that has something states a declaration, or is bad in some way
+abbrev StatesOrBad : List ℕ → ℕ → Type 0
+StatesOrBad text number = ((d : Declaration) × States text d) ⊎ ((r : BenchRefusal) × IsLineRefusal text number r × (r ≢ NoMemory))
+
+form_states : (text : List ℕ) (number : ℕ) (form : Form) → HasForm text form → StatesOrBad text number
+form_states text number form has =
+    elim (cases_Bool (list_all is_short (signal_names form))) [
+      | inr long ↦ inr (NameLong number, (refl, (form, has, λ short. both_ways (list_all is_short (signal_names form)) long short)), λ other. cc)
+      | inl short ↦ elim (form_declares form number) [
+        | inl (d, right, declares) ↦ inl (d, states text form d has short (right, declares))
+        | inr (r, bad, some) ↦ inr (r, line_refusal text form number r has short bad, some)
+      ]
+    ]
+
+line_states : (text : List ℕ) (number : ℕ) → text ≢ [] → StatesOrBad text number
+line_states text number some =
+    elim (form_or_none text) [
+      | inl (form, has) ↦ form_states text number form has
+      | inr none ↦ inr (Syntax number, (refl, (some, none)), λ other. cc)
+    ]
+
+empty_or_not : (text : List ℕ) → (text ≡ []) ⊎ (text ≢ [])
+empty_or_not [] = inl refl
+empty_or_not (b ∷ text) = inr (λ e. cc)
+
+abbrev Outcome : List ℕ → Type 0
+Outcome text = ((stated : List (ℕ × Declaration)) × Spells text stated) ⊎ ((r : BenchRefusal) × IsRefusal text r × (r ≢ NoMemory))
+
+-- the lines that are left, behind so many that were read
+lines_read : (text : List ℕ) (left : List (List ℕ)) (n : ℕ) (stated : List (ℕ × Declaration)) → left ≡ drop n (text_lines text) → n ≤ length (text_lines text) → Read 1 (take n (text_lines text)) stated → Outcome text
+lines_read text [] n stated e few read = inl (stated, whole_read text n stated (sym e) read)
+lines_read text (line ∷ rest) n stated e few read =
+    let all : List (List ℕ) = text_lines text in
+    let more = next_line all (line ∷ rest) rest n line e refl in
+    elim (empty_or_not (cut_line line)) [
+      | inl empty ↦ lines_read text rest (n + 1) stated more.1 more.0 (subst (λ (lines : List (List ℕ)). Read 1 lines stated) (sym more.2) (read_skipped 1 (take n all) line stated read empty))
+      | inr some ↦ elim (line_states (cut_line line) (n + 1) some) [
+        | inr (r, bad, other) ↦ inr (r, refusal_of text line rest n stated r few (sym e) read bad, other)
+        | inl (d, says) ↦
+            let longer : List (ℕ × Declaration) = stated ++ (1 + length (take n all), d) ∷ [] in
+            lines_read text rest (n + 1) longer more.1 more.0 (subst (λ (lines : List (List ℕ)). Read 1 lines longer) (sym more.2) (read_stated 1 (take n all) line stated d read says))
+      ]
+    ]
+
+pub read_or_refused : IsReadOrRefused
+read_or_refused text = lines_read text (text_lines text) 0 [] refl (omega arith) refl

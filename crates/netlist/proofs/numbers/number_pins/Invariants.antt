@@ -1,8 +1,0 @@
-use Rattle.std.proofs.Common.{◌≡◌, map, take}
-use Rattle.std.specs.List.{flat_map}
-use Rattle.sr_model.specs.Declaration.{declared}
-use Rattle.netlist.specs.Numbering.{pin_names, sig_in}
-use Rattle.netlist.proofs.numbers.number_pins.Given as goal
-
-abbrev pub invariant-loop-stated : goal.invariant-loop-stated
-invariant-loop-stated l = l.pins.items ≡ map (sig_in l.names) (flat_map pin_names (take l.stated-index (declared l.s)))

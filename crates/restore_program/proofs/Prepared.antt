@@ -1,0 +1,28 @@
+-- A reply, or want of memory in place of a table.
+use Rattle.std.proofs.Common.{◌≡◌, ◌⊎◌, ℕ, List, Option, inl, inr, sym, subst}
+use Rattle.sr_outside.specs.Told.{Held}
+use Rattle.report.specs.declared.refusal.Refusal.TheVariants as refusals
+use Rattle.restore_program.specs.declared.reply.Reply.{Reply}
+use Rattle.restore_program.specs.declared.reply.Reply.TheVariants as replies
+use Rattle.restore_program.specs.declared.status.Status.TheVariants as statuses
+use Rattle.restore_program.specs.Reply.{IsTableReply, status_of}
+use Rattle.restore_program.specs.ReplyAnswers.{ReplyAnswer}
+
+no_memory : Reply
+no_memory = replies.Refused refusals.NoMemory
+
+abbrev pub IsPrepared : Reply → Reply → Type 0
+IsPrepared reply prepared = (prepared ≡ reply) ⊎ (IsTableReply reply × (prepared ≡ replies.Refused refusals.NoMemory))
+
+pub prepared_answer : (words : List (List ℕ)) (told : Option Held) (reply prepared : Reply) → IsPrepared reply prepared → ReplyAnswer words told reply → ReplyAnswer words told prepared
+prepared_answer words told reply prepared (inl same) answer = subst (ReplyAnswer words told) (sym same) answer
+prepared_answer words told reply prepared (inr (_, none)) answer = subst (ReplyAnswer words told) (sym none) (λ held enough plain. absurd plain)
+
+-- a reply with another status than a table's is as it was
+pub prepared_status : (reply prepared : Reply) → IsPrepared reply prepared → status_of reply ≡ statuses.Words → status_of prepared ≡ statuses.Words
+prepared_status reply prepared (inl same) e = subst (λ r. status_of r ≡ statuses.Words) (sym same) e
+prepared_status (replies.Known table) prepared (inr (_, none)) e = absurd cc
+prepared_status (replies.Refused r) prepared (inr (other, none)) e = absurd other
+prepared_status (replies.Clash n cell) prepared (inr (other, none)) e = absurd other
+prepared_status (replies.Text text) prepared (inr (other, none)) e = absurd other
+prepared_status (replies.Load loaded) prepared (inr (other, none)) e = absurd other
