@@ -107,7 +107,7 @@ stated_is : (text : List ℕ) (d : Declaration) → States text d → IsStatemen
 stated_is text d is =
     declared_is is.form d is.declares is.right_pins (signal_names_are (signal_names is.form) (form_names is.has_form.0 is.form (are_names text is.has_form.0 is.has_form.1) is.has_form.2) is.short)
 
-read_are : (number : ℕ) (lines : List (List ℕ)) (stated : List (ℕ × Declaration)) → Read number lines stated → All (λ x. IsStatement x.1) stated
+pub read_are : (number : ℕ) (lines : List (List ℕ)) (stated : List (ℕ × Declaration)) → Read number lines stated → All (λ x. IsStatement x.1) stated
 read_are number [] stated read = subst (λ found. All (λ (x : ℕ × Declaration). IsStatement x.1) found) (sym read) (All-nil (λ x. IsStatement x.1))
 read_are number (line ∷ lines) stated (inl (empty, read)) = read_are (number + 1) lines stated read
 read_are number (line ∷ lines) stated (inr (d, rest, is, e, read)) =

@@ -1,5 +1,5 @@
 -- The marks of the signals that stand an odd number of times among pins.
-use Rattle.std.proofs.Common.{ℕ, ◌≡◌, ◌+◌, ◌-◌, ◌%◌, ◌<◌, ◌≤◌, ◌++◌, Bool, true, false, not, List, [], ◌∷◌, length, eqb, cond, get_or, take, drop, arith, sym, ap, ◌∙◌, refl, subst, length-drop, inl, inr, count_by}
+use Rattle.std.proofs.Common.{ℕ, ◌≡◌, ◌+◌, ◌-◌, ◌%◌, ◌<◌, ◌≤◌, ◌++◌, Bool, true, false, List, [], ◌∷◌, length, eqb, cond, get_or, take, drop, arith, sym, ap, ◌∙◌, refl, subst, length-drop, inl, inr, count_by}
 use Rattle.std.proofs.lemmas.Bool.{cases_lt, cases_Bool, or_parts, true≢false}
 use Rattle.std.proofs.lemmas.List.{length-append, drop-append-le, take-append-le}
 use Rattle.std.proofs.lemmas.List.Sums.{sum_by-cons}

@@ -1,5 +1,6 @@
 //! `srestore`: runs the command of the command line over files and standard output.
 #![tactic(auto)]
+
 ghost use Rattle.std.specs.Prelude.{◌≡◌};
 ghost use Rattle.std.specs.Process.{exit_status};
 ghost use Rattle.restore_program.specs.Status.{code_of};

@@ -9,7 +9,7 @@ pub struct CountedInputs {
 }
 
 impl Inputs for CountedInputs {
-    ghost use Rattle.std.specs.Prelude.{Some};
+    ghost use Rattle.std.specs.Prelude.{Some, refl};
     ghost use Rattle.sr_outside.specs.Memory.{bytes_of, has_listed, last_name, unread};
 
     ghost held = { λ s. Some (bytes_of s.inner.files) };
