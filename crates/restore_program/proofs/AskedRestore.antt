@@ -1,11 +1,8 @@
 -- What the words of a `restore` ask for, where each word is seen by its text.
-use Rattle.std.proofs.Common.{◌≡◌, ◌<◌, ℕ, Bool, List, length, get_or, map, subst, ⊎_elim, arith}
+use Rattle.std.proofs.Common.{◌≡◌, ◌<◌, ℕ, Bool, List, length, get_or, map, subst, arith}
 use Rattle.std.proofs.lemmas.List.{length-map}
 use Rattle.restore_program.specs.Words.{Restores}
-use Rattle.restore_program.specs.Faults.{AreRefused}
 use Rattle.restore_program.proofs.AskedSimulation.{text_here}
-use Rattle.restore_program.proofs.CommandShapes.{restore_command}
-use Rattle.restore_program.proofs.OneMeaning.{restore_or_bad}
 
 module _ {A : Type 0} (text : A → List ℕ) (xs : List A) (netlist dump : List ℕ) (all : Bool) (is : Restores (map text xs) netlist dump all) where
   pub restore_files : 2 < length xs

@@ -1,16 +1,13 @@
 -- What the words of a `simulate` ask for, where each word is seen by its text.
-use Rattle.std.proofs.Common.{◌≡◌, ◌<◌, ◌≤◌, ℕ, List, length, get_or, map, Some, refl, sym, ap, subst, ◌∙◌, ⊎_elim}
+use Rattle.std.proofs.Common.{◌≡◌, ◌<◌, ◌≤◌, ℕ, List, length, get_or, map, Some, refl, sym, ap, subst, ◌∙◌}
 use Rattle.std.specs.Prelude.{option_map}
 use Rattle.std.specs.List.{slice_get}
 use Rattle.std.proofs.lemmas.List.{length-map}
 use Rattle.std.proofs.lemmas.Option.{same_Some, slice_get-map, slice_get_read, slice_get_within}
 use Rattle.restore_program.specs.TraceRefusals.{HasListAt}
-use Rattle.restore_program.specs.Words.{Gives, IsBadNumber, Simulates, simulate_rule, trace_rule}
-use Rattle.restore_program.specs.Faults.{AreRefused}
+use Rattle.restore_program.specs.Words.{Gives, IsBadNumber, Simulates, trace_rule}
 use Rattle.restore_program.specs.Requests.{Traces}
 use Rattle.restore_program.proofs.Gifts.{list_at}
-use Rattle.restore_program.proofs.CommandShapes.{simulate_command, simulate_is_one}
-use Rattle.restore_program.proofs.OneMeaning.{bad_of, simulate_or_bad}
 
 -- ---- the word at a place
 

@@ -1,12 +1,12 @@
 -- Whether words have the shape of a command.
-use Rattle.std.proofs.Common.{◌≡◌, ◌<◌, ◌+◌, ℕ, Bool, List, [], ◌∷◌, zero, suc, length, drop, get_or, map, Some, refl, sym, ap, subst, ◌∙◌, lit<, arith}
-use Rattle.std.specs.Prelude.{All, Any, Contains, IsTrue, codes, cond, option_map, ◌==◌}
+use Rattle.std.proofs.Common.{◌≡◌, ◌<◌, ◌+◌, ℕ, Bool, false, List, Option, zero, suc, length, drop, get_or, map, Some, refl, sym, ap, subst, ◌∙◌, lit<, arith}
+use Rattle.std.specs.Prelude.{All, Any, Contains, IsTrue, find, option_map}
 use Rattle.std.specs.List.{slice_get}
 use Rattle.std.specs.Str.{bytes_eq}
-use Rattle.std.proofs.lemmas.List.Elements.{All-nil}
+use Rattle.std.proofs.lemmas.Bool.{false≢true}
 use Rattle.std.proofs.lemmas.Option.{same_Some, slice_get-map, slice_get_read}
 use Rattle.std.proofs.lemmas.Slice.Eq.{bytes_eq-Decides}
-use Rattle.restore_program.specs.Words.{CommandRule, command_rules, IsCommand, IsGivenRight, IsPrint, IsShaped, Suits, later, load_rule, print_rule, restore_rule, simulate_rule}
+use Rattle.restore_program.specs.Words.{CommandRule, command_rules, IsCommand, IsGivenRight, IsShaped, Suits, later, load_rule, print_rule, restore_rule, simulate_rule}
 
 abbrev SuitsAll : CommandRule → List (List ℕ) → Type 0
 SuitsAll rule words = All (λ word. Any (Suits word) rule.keys) words × All (IsGivenRight words) rule.keys
@@ -30,47 +30,16 @@ named_by text xs w seen name files b few at is test =
       λ named. test ∙ (bytes_eq-Decides seen name).1 (same_Some seen name (sym first ∙ named.0)),
     )
 
--- ---- `print`, which has no keys
+-- ---- the words have one name
 
-no_more : (rule : CommandRule) (words : List (List ℕ)) → rule.keys ≡ [] → All (λ word. Any (Suits word) rule.keys) words → ¬ (0 < length words)
-no_more rule words no_keys known some = let any = known 0 [] some in let few : any.0 < length rule.keys = any.2 in omega (arith, few, ap length no_keys)
+pub one_name : (rule other : CommandRule) (words : List (List ℕ)) → IsShaped rule words → IsShaped other words → rule.name ≡ other.name
+one_name rule other words shaped again = same_Some rule.name other.name (sym shaped.named ∙ again.named)
 
-pub print_shape : (words : List (List ℕ)) → IsPrint words → IsShaped print_rule words
-print_shape words (netlist, e) = subst (IsShaped print_rule) (sym e) record {
-  named = refl;
-  files = lit< tt;
-  known = All-nil (λ word. Any (Suits word) []);
-  given = All-nil (IsGivenRight []);
-}
+-- so they have the shape of one of two commands with different names
+pub not_both : (rule other : CommandRule) (words : List (List ℕ)) → bytes_eq rule.name other.name ≡ false → IsShaped rule words → ¬ IsShaped other words
+not_both rule other words apart shaped again = false≢true (sym apart ∙ (bytes_eq-Decides rule.name other.name).1 (one_name rule other words shaped again))
 
-pub shape_print : (words : List (List ℕ)) → IsShaped print_rule words → IsPrint words
-shape_print [] shaped = absurd (omega (arith, shaped.files))
-shape_print (a ∷ []) shaped = absurd (omega (arith, shaped.files))
-shape_print (a ∷ b ∷ []) shaped = (b, ap (λ w. w ∷ b ∷ []) (same_Some a (codes "print") shaped.named))
-shape_print (a ∷ b ∷ d ∷ more) shaped = absurd (no_more print_rule (d ∷ more) refl shaped.known (omega arith))
-
--- ---- words have one shape
-
-pub one_name : (rule other : CommandRule) (words : List (List ℕ)) → IsShaped rule words → IsShaped other words → length rule.name ≡ length other.name
-one_name rule other words shaped again = ap length (same_Some rule.name other.name (sym shaped.named ∙ again.named))
-
-pub restore_or_simulate : (words : List (List ℕ)) → IsShaped restore_rule words → ¬ IsShaped simulate_rule words
-restore_or_simulate words restore simulate = let e : ◌≡◌ {A = ℕ} 7 8 = one_name restore_rule simulate_rule words restore simulate in omega arith
-
-pub print_or_simulate : (words : List (List ℕ)) → IsPrint words → ¬ IsShaped simulate_rule words
-print_or_simulate words print simulate = let e : ◌≡◌ {A = ℕ} 5 8 = one_name print_rule simulate_rule words (print_shape words print) simulate in omega arith
-
-pub print_or_restore : (words : List (List ℕ)) → IsPrint words → ¬ IsShaped restore_rule words
-print_or_restore words print restore = let e : ◌≡◌ {A = ℕ} 5 7 = one_name print_rule restore_rule words (print_shape words print) restore in omega arith
-
-pub restore_or_load : (words : List (List ℕ)) → IsShaped restore_rule words → ¬ IsShaped load_rule words
-restore_or_load words restore load = let e : ◌≡◌ {A = ℕ} 7 4 = one_name restore_rule load_rule words restore load in omega arith
-
-pub simulate_or_load : (words : List (List ℕ)) → IsShaped simulate_rule words → ¬ IsShaped load_rule words
-simulate_or_load words simulate load = let e : ◌≡◌ {A = ℕ} 8 4 = one_name simulate_rule load_rule words simulate load in omega arith
-
-pub print_or_load : (words : List (List ℕ)) → IsPrint words → ¬ IsShaped load_rule words
-print_or_load words print load = let e : ◌≡◌ {A = ℕ} 5 4 = one_name print_rule load_rule words (print_shape words print) load in omega arith
+-- ---- a rule of the table
 
 -- the shape of a command is that of one of the four
 pub no_shape : (words : List (List ℕ)) → ¬ IsShaped restore_rule words → ¬ IsShaped simulate_rule words → ¬ IsShaped print_rule words → ¬ IsShaped load_rule words → ¬ IsCommand words
@@ -79,8 +48,6 @@ no_shape words no_restore no_simulate no_print no_load (suc zero, rule, h, e, sh
 no_shape words no_restore no_simulate no_print no_load (suc (suc zero), rule, h, e, shaped) = no_print (subst (λ r. IsShaped r words) (sym e) shaped)
 no_shape words no_restore no_simulate no_print no_load (suc (suc (suc zero)), rule, h, e, shaped) = no_load (subst (λ r. IsShaped r words) (sym e) shaped)
 no_shape words no_restore no_simulate no_print no_load (suc (suc (suc (suc k))), rule, h, e, shaped) = absurd (omega arith)
-
--- ---- a rule of the table
 
 pub restore_is_one : Contains command_rules restore_rule
 restore_is_one = (0, lit< tt, refl)
@@ -97,30 +64,19 @@ load_is_one = (3, lit< tt, refl)
 pub shaped_command : (rule : CommandRule) (words : List (List ℕ)) → Contains command_rules rule → IsShaped rule words → IsCommand words
 shaped_command rule words (k, h, e) shaped = (k, rule, h, e, shaped)
 
-pub restore_command : (words : List (List ℕ)) → IsShaped restore_rule words → IsCommand words
-restore_command words restore = shaped_command restore_rule words restore_is_one restore
+-- the first rule of the table with this name
+by_name : List ℕ → Option CommandRule
+by_name name = find (λ (rule : CommandRule). bytes_eq rule.name name) command_rules
 
-pub simulate_command : (words : List (List ℕ)) → IsShaped simulate_rule words → IsCommand words
-simulate_command words simulate = shaped_command simulate_rule words simulate_is_one simulate
-
-pub print_command : (words : List (List ℕ)) → IsPrint words → IsCommand words
-print_command words print = shaped_command print_rule words print_is_one (print_shape words print)
-
-pub load_command : (words : List (List ℕ)) → IsShaped load_rule words → IsCommand words
-load_command words load = shaped_command load_rule words load_is_one load
-
--- the commands' names differ in length
-with_length : ℕ → CommandRule
-with_length n = cond (n == 7) restore_rule (cond (n == 8) simulate_rule (cond (n == 5) print_rule load_rule))
-
-with_its_length : (rule : CommandRule) → Contains command_rules rule → with_length (length rule.name) ≡ rule
-unfolding with_length
-with_its_length rule (zero, h, e) = subst (λ r. with_length (length r.name) ≡ r) e refl
-with_its_length rule (suc zero, h, e) = subst (λ r. with_length (length r.name) ≡ r) e refl
-with_its_length rule (suc (suc zero), h, e) = subst (λ r. with_length (length r.name) ≡ r) e refl
-with_its_length rule (suc (suc (suc zero)), h, e) = subst (λ r. with_length (length r.name) ≡ r) e refl
-with_its_length rule (suc (suc (suc (suc k))), h, e) = absurd (omega arith)
+-- is the one, since the names differ
+is_by_name : (rule : CommandRule) → Contains command_rules rule → by_name rule.name ≡ Some rule
+unfolding by_name
+is_by_name rule (zero, h, e) = subst (λ r. by_name r.name ≡ Some r) e refl
+is_by_name rule (suc zero, h, e) = subst (λ r. by_name r.name ≡ Some r) e refl
+is_by_name rule (suc (suc zero), h, e) = subst (λ r. by_name r.name ≡ Some r) e refl
+is_by_name rule (suc (suc (suc zero)), h, e) = subst (λ r. by_name r.name ≡ Some r) e refl
+is_by_name rule (suc (suc (suc (suc k))), h, e) = absurd (omega arith)
 
 -- so words have the shape of one command at most
 pub one_command : (rule other : CommandRule) (words : List (List ℕ)) → Contains command_rules rule → Contains command_rules other → IsShaped rule words → IsShaped other words → rule ≡ other
-one_command rule other words is is_other shaped again = sym (with_its_length rule is) ∙ ap with_length (one_name rule other words shaped again) ∙ with_its_length other is_other
+one_command rule other words is is_other shaped again = same_Some rule other (sym (is_by_name rule is) ∙ ap by_name (one_name rule other words shaped again) ∙ is_by_name other is_other)

@@ -1,14 +1,17 @@
--- The words of `print`.
-use Rattle.std.proofs.Common.{◌≡◌, List, ℕ, [], ◌∷◌, length, get_or, sym, ap, subst, ◌∙◌, arith}
-use Rattle.std.specs.Prelude.{codes, map}
-use Rattle.restore_program.specs.Words.{IsPrint, Prints}
+-- What the words of a `print` ask for.
+use Rattle.std.proofs.Common.{◌≡◌, ◌<◌, List, ℕ, [], length, get_or, map, subst}
+use Rattle.std.proofs.lemmas.List.{length-map}
+use Rattle.std.proofs.lemmas.Option.{slice_get-get_or}
+use Rattle.restore_program.specs.Words.{IsPrint, IsShaped, Prints, print_rule}
+use Rattle.restore_program.proofs.AskedSimulation.{text_here}
 
-named_print : {A : Type 0} (text : A → List ℕ) (words : List A) (netlist : List ℕ) → Prints (map text words) netlist → (second : A) → second ≡ get_or words 1 second → Prints (map text words) (text second)
-named_print text [] netlist e second b = absurd (omega (arith, ap length e))
-named_print text (w ∷ []) netlist e second b = absurd (omega (arith, ap length e))
-named_print text (w ∷ x ∷ y ∷ rest) netlist e second b = absurd (omega (arith, ap length e))
-named_print text (w ∷ x ∷ []) netlist e second b = ap (λ a. a ∷ text x ∷ []) (ap (λ ws. get_or ws 0 []) e) ∙ ap (λ a. codes "print" ∷ text a ∷ []) (sym b)
+pub shape_print : (words : List (List ℕ)) → IsShaped print_rule words → IsPrint words
+shape_print words shaped = (get_or words 1 [], record { shaped = shaped; is_netlist = slice_get-get_or words 1 [] shaped.files })
 
--- the name of a netlist that is to be printed, by the text of its word
-pub asked_print : {A : Type 0} (text : A → List ℕ) (words : List A) → IsPrint (map text words) → (second : A) → second ≡ get_or words 1 second → (netlist : List ℕ) → netlist ≡ text second → Prints (map text words) netlist
-asked_print text words (first, e) second b netlist is = subst (Prints (map text words)) (sym is) (named_print text words first e second b)
+-- where each word is seen by its text
+module _ {A : Type 0} (text : A → List ℕ) (xs : List A) (is : IsPrint (map text xs)) where
+  pub print_file : 1 < length xs
+  print_file = subst (λ n. 1 < n) (length-map xs text) is.1.shaped.files
+
+  pub asked_print : (x : A) (seen : List ℕ) → x ≡ get_or xs 1 x → seen ≡ text x → Prints (map text xs) seen
+  asked_print x seen at e = record { shaped = is.1.shaped; is_netlist = text_here text xs 1 x seen print_file at e }

@@ -1,13 +1,13 @@
 -- The files that a request comes to.
-use Rattle.std.proofs.Common.{◌≡◌, ℕ, List, [], ◌∷◌, Option, None, Some, refl, subst, sym}
+use Rattle.std.proofs.Common.{ℕ, List, [], ◌∷◌, Option, None, Some, refl}
 use Rattle.std.specs.Prelude.{IfSome}
 use Rattle.std.proofs.lemmas.List.Elements.{All-cons, All-nil}
 use Rattle.sr_outside.specs.Told.{Held}
 use Rattle.netlist.specs.Circuit.{Circuit, circuit_of}
 use Rattle.report.specs.declared.refusal.Part.TheVariants as parts
 use Rattle.restore_program.specs.Answer.{IsNetlistOf}
-use Rattle.restore_program.specs.Faults.{AreAccepted, IsAcceptedOn, IsComeTo, IsFileOf}
-use Rattle.restore_program.specs.Requests.{Asks, File, Request, files_of}
+use Rattle.restore_program.specs.Faults.{AreAccepted, IsAcceptedOn, IsComeTo}
+use Rattle.restore_program.specs.Requests.{File}
 
 none_before : (told : Option Held) → IfSome told (λ held. AreAccepted held [])
 none_before None = tt

@@ -13,7 +13,8 @@ use Rattle.report.specs.declared.refusal.WordRefusal.TheVariants as refusals
 use Rattle.restore_program.specs.Words.{CommandRule, command_rules, Gives, GivesAt, IsBad, IsBadAt, IsBadNumber, IsCommand, IsFirstBad, IsFor, IsGiven, IsGivenRight, IsNumber, IsPrint, IsShaped, KeyRule, Loads, Restores, Simulates, Takes, choice, cycles_rule, later, load_rule, names, number, number_rule, print_rule, restore_rule, seed_rule, signals_rule, simulate_rule, trace_rule}
 use Rattle.restore_program.specs.WordMeaning.{Means}
 use Rattle.restore_program.proofs.GivenValues.{same_gift}
-use Rattle.restore_program.proofs.CommandShapes.{load_is_one, one_command, print_is_one, print_or_load, print_or_restore, print_or_simulate, print_shape, restore_is_one, restore_or_load, restore_or_simulate, shaped_command, simulate_is_one, simulate_or_load}
+use Rattle.std.specs.Str.{bytes_eq}
+use Rattle.restore_program.proofs.CommandShapes.{load_is_one, not_both, one_command, print_is_one, restore_is_one, shaped_command, simulate_is_one}
 
 -- ---- a key is given in one place
 
@@ -93,18 +94,12 @@ pub one_bad : (words : List (List ℕ)) (place next : ℕ) → IsBadNumber words
 one_bad words place next (k, rule, h, e, (shaped, first)) other = same_first rule words place next first (bad_of rule words next (k, h, e) shaped other)
 
 -- `restore` and `print` have no numbers
-restore_never_bad : (words : List (List ℕ)) (place : ℕ) → ¬ IsBadAt restore_rule words place
+pub restore_never_bad : (words : List (List ℕ)) (place : ℕ) → ¬ IsBadAt restore_rule words place
 restore_never_bad words place (zero, key, h, e, (value, gives, bad)) = subst (λ k. IsBad k.takes value) (sym e) bad
 restore_never_bad words place (suc k, key, h, e, more) = absurd (omega arith)
 
-print_never_bad : (words : List (List ℕ)) (place : ℕ) → ¬ IsBadAt print_rule words place
+pub print_never_bad : (words : List (List ℕ)) (place : ℕ) → ¬ IsBadAt print_rule words place
 print_never_bad words place bad = let few : bad.0 < 0 = bad.2 in omega arith
-
-pub restore_or_bad : (words : List (List ℕ)) (place : ℕ) → IsShaped restore_rule words → ¬ IsBadNumber words place
-restore_or_bad words place shaped bad = restore_never_bad words place (bad_of restore_rule words place restore_is_one shaped bad).0
-
-pub print_or_bad : (words : List (List ℕ)) (place : ℕ) → IsPrint words → ¬ IsBadNumber words place
-print_or_bad words place print bad = print_never_bad words place (bad_of print_rule words place print_is_one (print_shape words print) bad).0
 
 -- ---- the key of `restore`
 
@@ -157,7 +152,7 @@ given_number_key words shaped = shaped.given 0 number_rule (lit< tt)
 given_signals : (words : List (List ℕ)) → IsShaped load_rule words → IsGivenRight (later load_rule words) signals_rule
 given_signals words shaped = shaped.given 1 signals_rule (lit< tt)
 
-load_never_bad : (words : List (List ℕ)) (number signals place : ℕ) → Loads words number signals → ¬ IsBadAt load_rule words place
+pub load_never_bad : (words : List (List ℕ)) (number signals place : ℕ) → Loads words number signals → ¬ IsBadAt load_rule words place
 load_never_bad words n signals place is (zero, key, h, e, (value, gives, bad)) =
     let bad_there = subst (λ k. GivesAt load_rule words place k value × IsBad k.takes value) (sym e) (gives, bad) in
     good_number load_rule words number_rule n place value (given_number_key words is.shaped) is.has_number bad_there.0 bad_there.1
@@ -165,9 +160,6 @@ load_never_bad words n signals place is (suc zero, key, h, e, (value, gives, bad
     let bad_there = subst (λ k. GivesAt load_rule words place k value × IsBad k.takes value) (sym e) (gives, bad) in
     good_number load_rule words signals_rule signals place value (given_signals words is.shaped) is.has_signals bad_there.0 bad_there.1
 load_never_bad words n signals place is (suc (suc k), key, h, e, more) = absurd (omega arith)
-
-pub load_or_bad : (words : List (List ℕ)) (number signals place : ℕ) → Loads words number signals → ¬ IsBadNumber words place
-load_or_bad words n signals place is bad = load_never_bad words n signals place is (bad_of load_rule words place load_is_one is.shaped bad).0
 
 pub one_load : (words : List (List ℕ)) (number signals number' signals' : ℕ) → Loads words number signals → Loads words number' signals' → (number ≡ number') × (signals ≡ signals')
 one_load words n signals n' signals' is other = (
@@ -192,7 +184,7 @@ settings_is_one (settings.Load n signals) = load_is_one
 settings_shape : (words : List (List ℕ)) (s : Settings) → Means words (Ok s) → IsShaped (settings_rule s) words
 settings_shape words (settings.Restore all) is = is.2.shaped
 settings_shape words (settings.Simulate cycles seed trace) is = is.1.shaped
-settings_shape words settings.Print is = print_shape words is
+settings_shape words settings.Print is = is.1.shaped
 settings_shape words (settings.Load n signals) is = is.shaped
 
 settings_command : (words : List (List ℕ)) (s : Settings) → Means words (Ok s) → IsCommand words
@@ -217,24 +209,27 @@ same_simulate cycles seed trace cycles' seed' trace' e = let a = e.0 in let b = 
 same_load : (n signals n' signals' : ℕ) → (n ≡ n') × (signals ≡ signals') → settings.Load n signals ≡ settings.Load n' signals'
 same_load n signals n' signals' e = let a = e.0 in let b = e.1 in cc
 
+never_both : (words : List (List ℕ)) (s t : Settings) → bytes_eq (settings_rule s).name (settings_rule t).name ≡ false → Means words (Ok s) → ¬ Means words (Ok t)
+never_both words s t apart is other = not_both (settings_rule s) (settings_rule t) words apart (settings_shape words s is) (settings_shape words t other)
+
 one_settings : (words : List (List ℕ)) (s t : Settings) → Means words (Ok s) → Means words (Ok t) → s ≡ t
 one_settings words (settings.Restore all) (settings.Restore more) is other = same_restore all more (one_restore words is.0 is.1 other.0 other.1 all more is.2 other.2).2
 one_settings words (settings.Simulate cycles seed trace) (settings.Simulate cycles' seed' trace') is other =
     same_simulate cycles seed trace cycles' seed' trace' (one_simulation words is.0 other.0 cycles seed trace cycles' seed' trace' is.1 other.1)
 one_settings words settings.Print settings.Print is other = refl
 one_settings words (settings.Load n signals) (settings.Load n' signals') is other = same_load n signals n' signals' (one_load words n signals n' signals' is other)
-one_settings words (settings.Restore all) (settings.Simulate cycles seed trace) is other = absurd (restore_or_simulate words is.2.shaped other.1.shaped)
-one_settings words (settings.Restore all) settings.Print is other = absurd (print_or_restore words other is.2.shaped)
-one_settings words (settings.Simulate cycles seed trace) (settings.Restore all) is other = absurd (restore_or_simulate words other.2.shaped is.1.shaped)
-one_settings words (settings.Simulate cycles seed trace) settings.Print is other = absurd (print_or_simulate words other is.1.shaped)
-one_settings words settings.Print (settings.Restore all) is other = absurd (print_or_restore words is other.2.shaped)
-one_settings words settings.Print (settings.Simulate cycles seed trace) is other = absurd (print_or_simulate words is other.1.shaped)
-one_settings words (settings.Load n signals) (settings.Restore all) is other = absurd (restore_or_load words other.2.shaped is.shaped)
-one_settings words (settings.Load n signals) (settings.Simulate cycles seed trace) is other = absurd (simulate_or_load words other.1.shaped is.shaped)
-one_settings words (settings.Load n signals) settings.Print is other = absurd (print_or_load words other is.shaped)
-one_settings words (settings.Restore all) (settings.Load n signals) is other = absurd (restore_or_load words is.2.shaped other.shaped)
-one_settings words (settings.Simulate cycles seed trace) (settings.Load n signals) is other = absurd (simulate_or_load words is.1.shaped other.shaped)
-one_settings words settings.Print (settings.Load n signals) is other = absurd (print_or_load words is other.shaped)
+one_settings words (settings.Restore all) (settings.Simulate cycles seed trace) is other = absurd (never_both words (settings.Restore all) (settings.Simulate cycles seed trace) refl is other)
+one_settings words (settings.Restore all) settings.Print is other = absurd (never_both words (settings.Restore all) settings.Print refl is other)
+one_settings words (settings.Restore all) (settings.Load n signals) is other = absurd (never_both words (settings.Restore all) (settings.Load n signals) refl is other)
+one_settings words (settings.Simulate cycles seed trace) (settings.Restore all) is other = absurd (never_both words (settings.Simulate cycles seed trace) (settings.Restore all) refl is other)
+one_settings words (settings.Simulate cycles seed trace) settings.Print is other = absurd (never_both words (settings.Simulate cycles seed trace) settings.Print refl is other)
+one_settings words (settings.Simulate cycles seed trace) (settings.Load n signals) is other = absurd (never_both words (settings.Simulate cycles seed trace) (settings.Load n signals) refl is other)
+one_settings words settings.Print (settings.Restore all) is other = absurd (never_both words settings.Print (settings.Restore all) refl is other)
+one_settings words settings.Print (settings.Simulate cycles seed trace) is other = absurd (never_both words settings.Print (settings.Simulate cycles seed trace) refl is other)
+one_settings words settings.Print (settings.Load n signals) is other = absurd (never_both words settings.Print (settings.Load n signals) refl is other)
+one_settings words (settings.Load n signals) (settings.Restore all) is other = absurd (never_both words (settings.Load n signals) (settings.Restore all) refl is other)
+one_settings words (settings.Load n signals) (settings.Simulate cycles seed trace) is other = absurd (never_both words (settings.Load n signals) (settings.Simulate cycles seed trace) refl is other)
+one_settings words (settings.Load n signals) settings.Print is other = absurd (never_both words (settings.Load n signals) settings.Print refl is other)
 
 -- words have one meaning at most
 pub one_meaning : (words : List (List ℕ)) (r s : Result Settings WordRefusal) → Means words r → Means words s → r ≡ s

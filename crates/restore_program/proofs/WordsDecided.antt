@@ -5,7 +5,8 @@ use Rattle.std.proofs.lemmas.Option.{slice_get-get_or}
 use Rattle.restore_program.specs.Requests.{Asks, Request, loading, printing, restoration, simulation}
 use Rattle.restore_program.specs.WordLaws.{WordsAreDecided}
 use Rattle.restore_program.specs.Words.{CommandRule, IsBadAt, IsBadNumber, IsCommand, IsShaped, all_rule, command_rules, cycles_rule, load_rule, number_rule, print_rule, restore_rule, seed_rule, signals_rule, simulate_rule, trace_rule}
-use Rattle.restore_program.proofs.CommandShapes.{load_is_one, no_shape, print_is_one, restore_is_one, shape_print, simulate_is_one}
+use Rattle.restore_program.proofs.CommandShapes.{load_is_one, no_shape, print_is_one, restore_is_one, simulate_is_one}
+use Rattle.restore_program.proofs.CommandWords.{shape_print}
 use Rattle.restore_program.proofs.DecidedNumbers.{choice_of, first_bad, gift_behind, good_gift}
 use Rattle.restore_program.proofs.DecidedShapes.{decided_shape}
 

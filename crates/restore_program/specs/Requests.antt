@@ -2,7 +2,7 @@
 use Rattle.std.specs.Prelude.{ℕ, Bool, List, [], ◌∷◌}
 use Rattle.report.specs.declared.refusal.Part.{Part}
 use Rattle.report.specs.declared.refusal.Part.TheVariants as parts
-use Rattle.restore_program.specs.Words.{Restores, Simulates, Prints, Loads, GivesAt, simulate_rule, trace_rule}
+use Rattle.restore_program.specs.Words.{CommandRule, Restores, Simulates, Prints, Loads, GivesAt, load_rule, print_rule, restore_rule, simulate_rule, trace_rule}
 
 -- the restoration of a dump, with the rows of all signals or of the flip-flops alone; a run of so many cycles from a seed, with a trace of the signals that a list names;
 -- a netlist's text; or what follows in a netlist of so many signals that is drawn from a number
@@ -21,6 +21,13 @@ Asks words (restoration netlist dump all) = Restores words netlist dump all
 Asks words (simulation netlist cycles seed list) = Traces words netlist cycles seed list
 Asks words (printing netlist) = Prints words netlist
 Asks words (loading number signals) = Loads words number signals
+
+-- the rule of the command that asks for it
+abbrev pub rule_of : Request → CommandRule
+rule_of (restoration netlist dump all) = restore_rule
+rule_of (simulation netlist cycles seed list) = simulate_rule
+rule_of (printing netlist) = print_rule
+rule_of (loading number signals) = load_rule
 
 -- a file: which input it is, and its name
 abbrev pub File : Type 0

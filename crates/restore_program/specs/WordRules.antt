@@ -12,11 +12,11 @@ taken_by (takes.Number least most) = number least most
 taken_by takes.Names = names
 taken_by takes.Choice = choice
 
-abbrev pub rule_of : Key → KeyRule
-rule_of key = record { name = key.name.now; required = key.required; takes = taken_by key.takes }
+abbrev pub key_rule_of : Key → KeyRule
+key_rule_of key = record { name = key.name.now; required = key.required; takes = taken_by key.takes }
 
 abbrev pub command_rule_of : Command → CommandRule
-command_rule_of command = record { name = command.name.now; files = command.files; keys = map rule_of command.keys.now }
+command_rule_of command = record { name = command.name.now; files = command.files; keys = map key_rule_of command.keys.now }
 
 -- the word gives the key a number that it may not have
 abbrev pub IsBadFor : List ℕ → KeyRule → Type 0

@@ -150,8 +150,9 @@ pub record Restores (words : List (List ℕ)) (netlist dump : List ℕ) (all : B
   pub has_all : IsChosen restore_rule words all_rule all
 
 -- the words ask for the text of this netlist
-abbrev pub Prints : List (List ℕ) → List ℕ → Type 0
-Prints words netlist = words ≡ codes "print" ∷ netlist ∷ []
+pub record Prints (words : List (List ℕ)) (netlist : List ℕ) : Type 0 where
+  pub shaped : IsShaped print_rule words
+  pub is_netlist : slice_get words 1 ≡ Some netlist
 
 -- the words ask for a run of this netlist over so many cycles from this seed, and for what the word at place `trace` names
 pub record Simulates (words : List (List ℕ)) (netlist : List ℕ) (cycles seed trace : ℕ) : Type 0 where
@@ -171,7 +172,7 @@ pub record Loads (words : List (List ℕ)) (number signals : ℕ) : Type 0 where
 abbrev pub IsRestore : List (List ℕ) → Type 0
 IsRestore words = (netlist dump : List ℕ) × (all : Bool) × Restores words netlist dump all
 
--- the words are `print` and one more
+-- the words are `print` and what it takes
 abbrev pub IsPrint : List (List ℕ) → Type 0
 IsPrint words = (netlist : List ℕ) × Prints words netlist
 

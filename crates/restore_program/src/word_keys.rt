@@ -2,7 +2,7 @@
 ghost use Rattle.std.specs.Prelude.{◌≡◌, ◌↔◌, IsTrue, Some, List, ℕ, codes, map, option_map, All, Any};
 ghost use Rattle.std.specs.String.{string_bytes};
 ghost use Rattle.restore_program.specs.Words.{Gives, HasShape, IsFor, IsGivenRight, Suits};
-ghost use Rattle.restore_program.specs.WordRules.{FirstPlace, rule_of, taken_by};
+ghost use Rattle.restore_program.specs.WordRules.{FirstPlace, key_rule_of, taken_by};
 
 use crate::word_rules::{Key, Takes};
 
@@ -16,7 +16,7 @@ pub(crate) fn value_of<'word>(word: &'word str, name: &str) -> Option<&'word str
 
 /// The place of the first of these words that gives the key a value.
 pub(crate) fn place_of(words: &[String], key: &Key) -> Option<usize>
-    ensures { FirstPlace (IsFor (rule_of key.now)) (map string_bytes words.now) result }
+    ensures { FirstPlace (IsFor (key_rule_of key.now)) (map string_bytes words.now) result }
 {
     for (i, word) in words.iter().enumerate() {
         if value_of(word.as_str(), key.name).is_some() {
@@ -49,14 +49,14 @@ fn gives_yes(word: &str, name: &str) -> bool
 
 /// Whether each of these words suits one of the keys, and the keys are given as they have to be.
 pub(crate) fn suit_all(words: &[String], keys: &[Key]) -> bool
-    ensures { IsTrue result ↔ (All (λ word. Any (Suits word) (map rule_of keys.now)) (map string_bytes words.now)
-        × All (IsGivenRight (map string_bytes words.now)) (map rule_of keys.now)) }
+    ensures { IsTrue result ↔ (All (λ word. Any (Suits word) (map key_rule_of keys.now)) (map string_bytes words.now)
+        × All (IsGivenRight (map string_bytes words.now)) (map key_rule_of keys.now)) }
 {
     are_known(words, keys) && are_given(words, keys)
 }
 
 fn are_known(words: &[String], keys: &[Key]) -> bool
-    ensures { IsTrue result ↔ All (λ word. Any (Suits word) (map rule_of keys.now)) (map string_bytes words.now) }
+    ensures { IsTrue result ↔ All (λ word. Any (Suits word) (map key_rule_of keys.now)) (map string_bytes words.now) }
 {
     for word in words {
         if !is_known(word.as_str(), keys) {
@@ -67,7 +67,7 @@ fn are_known(words: &[String], keys: &[Key]) -> bool
 }
 
 fn is_known(word: &str, keys: &[Key]) -> bool
-    ensures { IsTrue result ↔ Any (Suits word.now) (map rule_of keys.now) }
+    ensures { IsTrue result ↔ Any (Suits word.now) (map key_rule_of keys.now) }
 {
     for key in keys {
         if suits(word, key) {
@@ -78,7 +78,7 @@ fn is_known(word: &str, keys: &[Key]) -> bool
 }
 
 fn suits(word: &str, key: &Key) -> bool
-    ensures { IsTrue result ↔ Suits word.now (rule_of key.now) }
+    ensures { IsTrue result ↔ Suits word.now (key_rule_of key.now) }
 {
     match value_of(word, key.name) {
         Some(value) => has_shape(value, key.takes),
@@ -97,7 +97,7 @@ fn has_shape(value: &str, takes: Takes) -> bool
 }
 
 fn are_given(words: &[String], keys: &[Key]) -> bool
-    ensures { IsTrue result ↔ All (IsGivenRight (map string_bytes words.now)) (map rule_of keys.now) }
+    ensures { IsTrue result ↔ All (IsGivenRight (map string_bytes words.now)) (map key_rule_of keys.now) }
 {
     for key in keys {
         if !is_given_right(words, key) {
@@ -109,7 +109,7 @@ fn are_given(words: &[String], keys: &[Key]) -> bool
 
 /// Whether the words give the key at most once, and once where it has to be given.
 fn is_given_right(words: &[String], key: &Key) -> bool
-    ensures { IsTrue result ↔ IsGivenRight (map string_bytes words.now) (rule_of key.now) }
+    ensures { IsTrue result ↔ IsGivenRight (map string_bytes words.now) (key_rule_of key.now) }
 {
     match place_of(words, key) {
         Some(place) => place_of(&words[place + 1..], key).is_none(),

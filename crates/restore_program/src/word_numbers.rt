@@ -3,7 +3,7 @@ ghost use Rattle.std.specs.Prelude.{◌≡◌, ◌↔◌, ◌≤◌, IsTrue, Som
 ghost use Rattle.std.specs.Fmt.{decimal};
 ghost use Rattle.std.specs.String.{string_bytes};
 ghost use Rattle.restore_program.specs.Words.{IsBad, IsNumber};
-ghost use Rattle.restore_program.specs.WordRules.{FindsNumber, FirstPlace, IsBadFor, rule_of, taken_by};
+ghost use Rattle.restore_program.specs.WordRules.{FindsNumber, FirstPlace, IsBadFor, key_rule_of, taken_by};
 
 use crate::word_keys::{place_of, value_of};
 use crate::word_rules::{Key, Takes};
@@ -11,7 +11,7 @@ use sr_text::read_u64;
 
 /// The number that these words give to the key.
 pub(crate) fn number_of(words: &[String], key: &Key) -> Option<u64>
-    ensures { FindsNumber (rule_of key.now) (map string_bytes words.now) result }
+    ensures { FindsNumber (key_rule_of key.now) (map string_bytes words.now) result }
 {
     let place = place_of(words, key)?;
     let value = value_of(words[place].as_str(), key.name)?;
@@ -20,7 +20,7 @@ pub(crate) fn number_of(words: &[String], key: &Key) -> Option<u64>
 
 /// The place of the first of these words that gives one of the keys a number which it may not have.
 pub(crate) fn bad_number(words: &[String], keys: &[Key]) -> Option<usize>
-    ensures { FirstPlace (λ word. Any (IsBadFor word) (map rule_of keys.now)) (map string_bytes words.now) result }
+    ensures { FirstPlace (λ word. Any (IsBadFor word) (map key_rule_of keys.now)) (map string_bytes words.now) result }
 {
     for (i, word) in words.iter().enumerate() {
         if has_bad_number(word.as_str(), keys) {
@@ -31,7 +31,7 @@ pub(crate) fn bad_number(words: &[String], keys: &[Key]) -> Option<usize>
 }
 
 fn has_bad_number(word: &str, keys: &[Key]) -> bool
-    ensures { IsTrue result ↔ Any (IsBadFor word.now) (map rule_of keys.now) }
+    ensures { IsTrue result ↔ Any (IsBadFor word.now) (map key_rule_of keys.now) }
 {
     for key in keys {
         if is_bad_for(word, key) {
@@ -42,7 +42,7 @@ fn has_bad_number(word: &str, keys: &[Key]) -> bool
 }
 
 fn is_bad_for(word: &str, key: &Key) -> bool
-    ensures { IsTrue result ↔ IsBadFor word.now (rule_of key.now) }
+    ensures { IsTrue result ↔ IsBadFor word.now (key_rule_of key.now) }
 {
     match value_of(word, key.name) {
         Some(value) => is_bad(value, key.takes),

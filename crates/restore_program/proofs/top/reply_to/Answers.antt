@@ -9,8 +9,8 @@ use Rattle.restore_program.proofs.Answering.{answers_asked, answers_refused, ref
 use Rattle.restore_program.proofs.AskedLoad.{load_size}
 use Rattle.restore_program.proofs.AskedRestore.{restore_files, restores_seen}
 use Rattle.restore_program.proofs.AskedSimulation.{cycles_counted, has_list, listed, same_netlist, trace_within, traces_list}
-use Rattle.restore_program.proofs.CommandWords.{asked_print}
-use Rattle.restore_program.proofs.Inputless.{print_needs, restore_needs, simulate_needs}
+use Rattle.restore_program.proofs.CommandWords.{asked_print, print_file}
+use Rattle.restore_program.proofs.Inputless.{needs_files}
 use Rattle.restore_program.proofs.OneRequest.{asked_refused}
 use Rattle.restore_program.proofs.Reading.{none_read, read_among}
 use Rattle.restore_program.proofs.top.reply_to.Goals as goal
@@ -35,11 +35,11 @@ returns-in-Ok-Restore g c =
     restores_seen string_bytes c.args.words.now is.0 is.1 c.in-Ok-Restore.all is.2 c.index-words-1.result c.index-words-2.result c.as_str.result.now c.as_str-in-Ok-Restore.result.now c.index-words-1.is c.index-words-2.is
     c.as_str.ensures.value c.as_str-in-Ok-Restore.ensures.value in
     record {
-      answer = answers_asked (g.I.Inputs.held c.args.inputs.now) words request c.restore_reply.result asked (c.restore_reply.ensures.answer words) (λ needs. absurd (restore_needs words _ _ _ asked needs));
+      answer = answers_asked (g.I.Inputs.held c.args.inputs.now) words request c.restore_reply.result asked (c.restore_reply.ensures.answer words) (λ needs. absurd (needs_files words request _ _ refl asked needs));
       ready = c.restore_reply.ensures.ready words;
       of_words = λ about. absurd (c.restore_reply.ensures.not_of_words about);
       refused = λ refused. absurd (asked_refused words request asked refused);
-      untouched = λ needs. absurd (restore_needs words _ _ _ asked needs);
+      untouched = λ needs. absurd (needs_files words request _ _ refl asked needs);
       reads = read_among _ _ _ _ _ _ _ _ (λ file come. (request, asked, come)) c.restore_reply.ensures.reads;
     }
 
@@ -76,28 +76,31 @@ returns-in-Ok-Simulate g c =
     traces_list string_bytes c.args.words.now c.as_str-in-Ok-Simulate.result.now c.in-Ok-Simulate.cycles c.in-Ok-Simulate.seed c.in-Ok-Simulate.trace run c.index-words-trace.result c.as_str-in-Ok-Simulate-2.result.now c.index-words-trace.is c.as_str-in-Ok-Simulate-2.ensures.value c.trace_list.result.now c.trace_list.ensures in
     let there = listed string_bytes c.args.words.now c.as_str-in-Ok-Simulate.result.now c.in-Ok-Simulate.cycles c.in-Ok-Simulate.seed c.in-Ok-Simulate.trace run c.index-words-trace.result c.as_str-in-Ok-Simulate-2.result.now c.index-words-trace.is c.as_str-in-Ok-Simulate-2.ensures.value c.trace_list.result.now c.trace_list.ensures in
     record {
-      answer = answers_asked (g.I.Inputs.held c.args.inputs.now) words request c.simulate_reply.result asked (c.simulate_reply.ensures.answer words there) (λ needs. absurd (simulate_needs words _ _ _ _ asked needs));
+      answer = answers_asked (g.I.Inputs.held c.args.inputs.now) words request c.simulate_reply.result asked (c.simulate_reply.ensures.answer words there) (λ needs. absurd (needs_files words request _ _ refl asked needs));
       ready = c.simulate_reply.ensures.ready words there;
       of_words = λ _. inr (is.0, c.in-Ok-Simulate.cycles, c.in-Ok-Simulate.seed, c.in-Ok-Simulate.trace, is.1);
       refused = λ refused. absurd (asked_refused words request asked refused);
-      untouched = λ needs. absurd (simulate_needs words _ _ _ _ asked needs);
+      untouched = λ needs. absurd (needs_files words request _ _ refl asked needs);
       reads = read_among _ _ _ _ _ _ _ _ (λ file come. (request, asked, come)) c.simulate_reply.ensures.reads;
     }
 
 -- ---- print
+
+pub bounds-words-1-in-Ok-Print : goal.bounds-words-1-in-Ok-Print
+bounds-words-1-in-Ok-Print g c = print_file string_bytes c.args.words.now (c.in-Ok-Print.ensures.print.0 (ap Ok c.in-Ok-Print.field-0-is))
 
 pub returns-in-Ok-Print : goal.returns-in-Ok-Print
 returns-in-Ok-Print g c =
     let words : List (List ℕ) = map string_bytes c.args.words.now in
     let request : Request = printing c.as_str-in-Ok-Print.result.now in
     let asked : Asks words request =
-    asked_print string_bytes c.args.words.now (c.in-Ok-Print.ensures.print.0 (ap Ok c.in-Ok-Print.field-0-is)) c.index-words-1-in-Ok-Print.result c.index-words-1-in-Ok-Print.is c.as_str-in-Ok-Print.result.now c.as_str-in-Ok-Print.ensures.value in
+    asked_print string_bytes c.args.words.now (c.in-Ok-Print.ensures.print.0 (ap Ok c.in-Ok-Print.field-0-is)) c.index-words-1-in-Ok-Print.result c.as_str-in-Ok-Print.result.now c.index-words-1-in-Ok-Print.is c.as_str-in-Ok-Print.ensures.value in
     record {
-      answer = answers_asked (g.I.Inputs.held c.args.inputs.now) words request c.print_reply.result asked (c.print_reply.ensures.answer words) (λ needs. absurd (print_needs words _ asked needs));
+      answer = answers_asked (g.I.Inputs.held c.args.inputs.now) words request c.print_reply.result asked (c.print_reply.ensures.answer words) (λ needs. absurd (needs_files words request _ _ refl asked needs));
       ready = c.print_reply.ensures.ready words;
       of_words = λ about. absurd (c.print_reply.ensures.not_of_words about);
       refused = λ refused. absurd (asked_refused words request asked refused);
-      untouched = λ needs. absurd (print_needs words _ asked needs);
+      untouched = λ needs. absurd (needs_files words request _ _ refl asked needs);
       reads = read_among _ _ _ _ _ _ _ _ (λ file come. (request, asked, come)) c.print_reply.ensures.reads;
     }
 

@@ -4,7 +4,8 @@ use Rattle.std.proofs.lemmas.Bool.{false≢true}
 use Rattle.restore_program.specs.declared.words.Settings.TheVariants as settings
 use Rattle.report.specs.declared.refusal.WordRefusal.TheVariants as refusals
 use Rattle.restore_program.proofs.OneMeaning.{exact_answer}
-use Rattle.restore_program.proofs.CommandShapes.{no_shape, shape_print}
+use Rattle.restore_program.proofs.CommandShapes.{no_shape}
+use Rattle.restore_program.proofs.CommandWords.{shape_print}
 use Rattle.restore_program.proofs.Simulations.{restores}
 use Rattle.restore_program.proofs.WordPlaces.{drop_images}
 use Rattle.restore_program.proofs.words.read_words.Goals as goal
