@@ -1,5 +1,5 @@
 -- There is one answer at most, and accepted inputs are answered.
-use Rattle.std.proofs.Common.{◌≡◌, ℕ, ◌≤◌, ◌<◌, Bool, true, false, List, ◌++◌, length, Some, refl, sym, ap, subst, ◌∙◌, inl, inr, arith}
+use Rattle.std.proofs.Common.{◌≡◌, ℕ, ◌≤◌, ◌<◌, Bool, true, false, List, ◌++◌, length, Some, refl, sym, ap, subst, ◌∙◌, ◌⊎◌, inl, inr, lit<, arith}
 use Rattle.std.specs.Prelude.{codes}
 use Rattle.std.proofs.lemmas.Option.{same_Some}
 use Rattle.sr_model.specs.declared.cells.Cell.{Cell}
@@ -26,13 +26,15 @@ use Rattle.dump_reader.proofs.RefusedOnce as dump_laws
 use Rattle.report.specs.Clash.{clash_line}
 use Rattle.report.specs.InputRefusals.{bench_line, net_line, dump_line}
 use Rattle.report.specs.Refusals.{word_line}
+use Rattle.report.specs.declared.refusal.Part.TheVariants as parts
 use Rattle.report.specs.declared.refusal.WordRefusal.TheVariants as word_refusals
 use Rattle.report.specs.Table.{table_text}
 use Rattle.restore_program.specs.declared.status.Status.{Status}
+use Rattle.restore_program.specs.declared.status.Status.TheVariants as statuses
 use Rattle.restore_program.specs.Answer.{most_bytes, IsNetlistText, RefusedNetlist, netlist_too_long, bad_line, no_netlist, IsClashOf, IsDumpText, KnownFrom, traced_count, OnDump, dump_too_long, bad_dump, clash, table, IsNetlistOf, OnNetlist, OnPrint, OnRefused, DumpAnswer, RequestAnswer, Answer, usage, bad_number, asked}
-use Rattle.restore_program.specs.AnswerLaws.{HasOneAnswer, AcceptedIsAnswered, PrintableIsPrinted, TraceableIsTraced}
+use Rattle.restore_program.specs.AnswerLaws.{HasOneAnswer, AcceptedIsCompleted}
 use Rattle.restore_program.specs.Requests.{Request, Asks, restoration, simulation, printing, loading}
-use Rattle.restore_program.specs.Sound.{IsTableOrClash}
+use Rattle.restore_program.specs.Sound.{IsAccepted, IsCompleted}
 use Rattle.restore_program.specs.Tracing.{OnTrace}
 use Rattle.restore_program.proofs.OneLoad.{one_load_text}
 use Rattle.restore_program.proofs.OneMeaning.{one_bad}
@@ -237,21 +239,23 @@ answer_to words held request text status asks (usage refused) = absurd (refused 
 answer_to words held request text status asks (bad_number place bad) = absurd (asked_good words request place asks bad)
 answer_to words held request text status asks (asked own _ _ asks_own on) = subst (λ r. RequestAnswer held r text status) (one_request words own request asks_own asks) on
 
-dump_answered : (c : Circuit) (bytes : List ℕ) (d : Recording) (all : Bool) (text : List ℕ) (status : Status) → IsCircuit c → IsDumpText c bytes d → OnDump c bytes all text status → IsTableOrClash status
-dump_answered c bytes d all text status circuit is (dump_too_long long) = absurd (not_longer bytes is.0 long)
-dump_answered c bytes d all text status circuit is (bad_dump r _ some bad) = absurd (some (dump_laws.not_both c bytes d r circuit is.1 bad))
-dump_answered c bytes d all text status circuit is (clash _ _ _ _) = inr refl
-dump_answered c bytes d all text status circuit is (table _ _ _ _ _) = inl refl
+dump_completed : (c : Circuit) (bytes : List ℕ) (d : Recording) (all : Bool) (text : List ℕ) (status : Status) → IsCircuit c → IsDumpText c bytes d → OnDump c bytes all text status → (status ≡ statuses.Done) ⊎ (status ≡ statuses.Contradiction)
+dump_completed c bytes d all text status circuit is (dump_too_long long) = absurd (not_longer bytes is.0 long)
+dump_completed c bytes d all text status circuit is (bad_dump r _ some bad) = absurd (some (dump_laws.not_both c bytes d r circuit is.1 bad))
+dump_completed c bytes d all text status circuit is (clash _ _ _ _) = inr refl
+dump_completed c bytes d all text status circuit is (table _ _ _ _ _) = inl refl
 
-pub accepted_is_answered : AcceptedIsAnswered
-accepted_is_answered words held c d all a text status answer =
-    let on = on_this_netlist held a.netlist (λ n. DumpAnswer held n a.dump all) c text status a.netlist_held (answer_to words held (restoration a.netlist a.dump all) text status a.asked answer) in
-    dump_answered c a.dump_bytes d all text status (is_circuit a.netlist_held.0 c a.netlist_held.2) a.dump_text (subst (λ b. OnDump c b all text status) (same_held held a.dump on.0 a.dump_bytes on.1 a.dump_held) on.2)
+-- what is accepted is completed
+completed : (held : Held) (request : Request) (text : List ℕ) (status : Status) → IsAccepted held request → RequestAnswer held request text status → IsCompleted request status
+completed held (restoration netlist dump all) text status (c, files, _) answer =
+    let is : IsNetlistOf held netlist c = files 0 (parts.Netlist, netlist) (lit< tt) in
+    let (bytes, d, there, is_dump) = files 1 (parts.Dump, dump) (lit< tt) in
+    let (again, there_again, on) = on_this_netlist held netlist (λ n. DumpAnswer held n dump all) c text status is answer in
+    dump_completed c bytes d all text status (is_circuit is.0 c is.2) is_dump (subst (λ b. OnDump c b all text status) (same_held held dump again bytes there_again there) on)
+completed held (simulation netlist cycles seed list) text status (c, files, (sigs, named, few)) answer =
+    traced_done c cycles seed list text status sigs named few (on_this_netlist held netlist (λ c. OnTrace c cycles seed list) c text status (files 0 (parts.Netlist, netlist) (lit< tt)) answer)
+completed held (printing netlist) text status (c, files, _) answer = (on_this_netlist held netlist OnPrint c text status (files 0 (parts.Netlist, netlist) (lit< tt)) answer).1
+completed held (loading number signals) text status accepted answer = answer.1
 
-pub printable_is_printed : PrintableIsPrinted
-printable_is_printed words held (netlist, c, asks, is) text status answer = (on_this_netlist held netlist OnPrint c text status is (answer_to words held (printing netlist) text status asks answer)).1
-
-pub traceable_is_traced : TraceableIsTraced
-traceable_is_traced words held t text status answer =
-    traced_done t.c t.cycles t.seed t.list text status t.sigs t.named t.few
-    (on_this_netlist held t.netlist (λ c. OnTrace c t.cycles t.seed t.list) t.c text status t.netlist_held (answer_to words held (simulation t.netlist t.cycles t.seed t.list) text status t.asked answer))
+pub accepted_is_completed : AcceptedIsCompleted
+accepted_is_completed words held request asks accepted text status answer = completed held request text status accepted (answer_to words held request text status asks answer)

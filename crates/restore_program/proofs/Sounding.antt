@@ -13,14 +13,15 @@ use Rattle.restore_program.specs.declared.status.Status.{Status}
 use Rattle.restore_program.specs.declared.status.Status.TheVariants as statuses
 use Rattle.restore_program.specs.declared.reply.Reply.{Reply}
 use Rattle.restore_program.specs.Reply.{text_of, status_of}
-use Rattle.restore_program.specs.Requests.{restoration, simulation, printing, loading}
+use Rattle.restore_program.specs.Requests.{Asks, Request, restoration, simulation, printing, loading}
 use Rattle.restore_program.specs.Words.{Restores, IsRestore}
 use Rattle.restore_program.specs.Answer.{Answer, usage, bad_number, asked, netlist_too_long, bad_line, no_netlist, OnNetlist, OnRefused, IsNetlistOf, DumpAnswer, OnDump, dump_too_long, bad_dump, clash, table, traced_count}
+use Rattle.restore_program.specs.Faults.{TellsEnough}
 use Rattle.restore_program.specs.ReplyAnswers.{ReplyAnswer}
 use Rattle.restore_program.specs.Status.{IsPlain}
-use Rattle.restore_program.specs.Sound.{IsAccepted, IsDumpAgain, IsPrintable, IsSoundTable, IsTableOrClash, IsTraceable, NoneMatches}
+use Rattle.restore_program.specs.Sound.{IsAccepted, IsCompleted, IsDumpAgain, IsSoundTable, NoneMatches}
 use Rattle.restore_program.specs.Tracing.{OnTrace, unknown_name, name_twice, many_cells, traced}
-use Rattle.restore_program.proofs.OneAnswer.{accepted_is_answered, answer_to, clash_known, is_circuit, printable_is_printed, traceable_is_traced}
+use Rattle.restore_program.proofs.OneAnswer.{accepted_is_completed, answer_to, clash_known, is_circuit}
 
 -- a refused netlist has its own status
 refused_status : (held : Held) (netlist text : List ℕ) (status : Status) → OnRefused held netlist text status → status ≡ statuses.Netlist
@@ -116,14 +117,5 @@ module _ (words : List (List ℕ)) (reply : Reply) where
   clash_reply None answer e = tt
   clash_reply (Some held) answer e = clash_answer words held (text_of words reply) (status_of reply) (answer held (inl refl) (subst IsPlain (sym e) tt)) e
 
-  pub finishes : (told : Option Held) → ReplyAnswer words told reply → IfSome told (λ held. IsAccepted words held → IsPlain (status_of reply) → IsTableOrClash (status_of reply))
-  finishes None answer = tt
-  finishes (Some held) answer = λ (c, d, all, a) plain. accepted_is_answered words held c d all a (text_of words reply) (status_of reply) (answer held (inl refl) plain)
-
-  pub prints : (told : Option Held) → ReplyAnswer words told reply → IfSome told (λ held. IsPrintable words held → IsPlain (status_of reply) → status_of reply ≡ statuses.Done)
-  prints None answer = tt
-  prints (Some held) answer = λ printable plain. printable_is_printed words held printable (text_of words reply) (status_of reply) (answer held (inl refl) plain)
-
-  pub traces : (told : Option Held) → ReplyAnswer words told reply → IfSome told (λ held. IsTraceable words held → IsPlain (status_of reply) → status_of reply ≡ statuses.Done)
-  traces None answer = tt
-  traces (Some held) answer = λ traceable plain. traceable_is_traced words held traceable (text_of words reply) (status_of reply) (answer held (inl refl) plain)
+  pub completes : (told : Option Held) → ReplyAnswer words told reply → (held : Held) (request : Request) → TellsEnough words told held → Asks words request → IsAccepted held request → IsPlain (status_of reply) → IsCompleted request (status_of reply)
+  completes told answer held request enough asks accepted plain = accepted_is_completed words held request asks accepted (text_of words reply) (status_of reply) (answer held enough plain)

@@ -9,11 +9,10 @@ use Rattle.netlist.specs.Circuit.{Circuit}
 use Rattle.dump_reader.specs.Recording.{Recording}
 use Rattle.cycle_sim.specs.Simulation.{IsSimulated, traced_rows}
 use Rattle.restore_program.specs.declared.status.Status.{Status}
-use Rattle.restore_program.specs.declared.status.Status.TheVariants as statuses
 use Rattle.restore_program.specs.Answer.{Answer, KnownFrom}
 use Rattle.restore_program.specs.Faults.{IsComeTo}
 use Rattle.restore_program.specs.Requests.{File, Request, Asks, files_of}
-use Rattle.restore_program.specs.Sound.{Accepts, IsPrintable, IsTableOrClash, IsTraceable}
+use Rattle.restore_program.specs.Sound.{IsAccepted, IsCompleted}
 
 -- there is one answer at most
 abbrev pub HasOneAnswer : Type 0
@@ -27,19 +26,10 @@ IsServed held request = (file : File) → IsComeTo (Some held) (files_of request
 abbrev pub AnswerExists : Type 0
 AnswerExists = (words : List (List ℕ)) (held : Held) → ((request : Request) → Asks words request → IsServed held request) → (text : List ℕ) × (status : Status) × Answer words held text status
 
--- where a netlist and a dump are accepted, each answer is a table or a contradiction
-abbrev pub AcceptedIsAnswered : Type 0
-AcceptedIsAnswered =
-    (words : List (List ℕ)) (held : Held) (c : Circuit) (d : Recording) (all : Bool) → Accepts words held c d all
-    → (text : List ℕ) (status : Status) → Answer words held text status → IsTableOrClash status
-
--- where a netlist is accepted, its text is the answer to `print`
-abbrev pub PrintableIsPrinted : Type 0
-PrintableIsPrinted = (words : List (List ℕ)) (held : Held) → IsPrintable words held → (text : List ℕ) (status : Status) → Answer words held text status → status ≡ statuses.Done
-
--- where the trace of a run can be had, its text is the answer to `simulate`
-abbrev pub TraceableIsTraced : Type 0
-TraceableIsTraced = (words : List (List ℕ)) (held : Held) → IsTraceable words held → (text : List ℕ) (status : Status) → Answer words held text status → status ≡ statuses.Done
+-- where what is asked for is accepted, each answer completes it
+abbrev pub AcceptedIsCompleted : Type 0
+AcceptedIsCompleted =
+    (words : List (List ℕ)) (held : Held) (request : Request) → Asks words request → IsAccepted held request → (text : List ℕ) (status : Status) → Answer words held text status → IsCompleted request status
 
 -- what is known from the trace of a simulated execution are bits of the execution, and so is no contradiction
 abbrev pub TraceIsSimulated : Type 0

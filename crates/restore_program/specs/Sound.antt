@@ -1,5 +1,5 @@
--- What the text of a run says of the executions that match the dump.
-use Rattle.std.specs.Prelude.{ℕ, ◌≡◌, ◌≤◌, ◌⊎◌, Bool, List, length, Some}
+-- What the text of a run says of the executions that match the dump, and what is completed.
+use Rattle.std.specs.Prelude.{ℕ, ◌≡◌, ◌≤◌, ◌⊎◌, ⊤, Bool, List, length, Some, All}
 use Rattle.sr_model.specs.declared.cells.Cell.{Cell}
 use Rattle.sr_model.specs.declared.cells.Lit.{Lit}
 use Rattle.sr_model.specs.declared.cells.Sig.{Sig}
@@ -14,9 +14,10 @@ use Rattle.report.specs.Table.{known_rows, table_text}
 use Rattle.restore_program.specs.declared.status.Status.{Status}
 use Rattle.restore_program.specs.declared.status.Status.TheVariants as statuses
 use Rattle.restore_program.specs.Answer.{IsNetlistOf, IsDumpText, KnownFrom, SpellsDump, traced_count}
-use Rattle.restore_program.specs.Requests.{Traces}
+use Rattle.restore_program.specs.Faults.{IsAcceptedOn}
+use Rattle.restore_program.specs.Requests.{Request, files_of, loading, printing, restoration, simulation}
 use Rattle.restore_program.specs.Tracing.{AreNamed, names_in}
-use Rattle.restore_program.specs.Words.{Restores, Prints}
+use Rattle.restore_program.specs.Words.{Restores}
 
 -- the words ask for a netlist and a dump that are held and accepted, with this recording, and for the rows of all signals or of the flip-flops alone
 pub record Accepts (words : List (List ℕ)) (held : Held) (c : Circuit) (d : Recording) (all : Bool) : Type 0 where
@@ -27,26 +28,6 @@ pub record Accepts (words : List (List ℕ)) (held : Held) (c : Circuit) (d : Re
   pub dump_bytes : List ℕ
   pub dump_held : held dump ≡ Some dump_bytes
   pub dump_text : IsDumpText c dump_bytes d
-
-abbrev pub IsAccepted : List (List ℕ) → Held → Type 0
-IsAccepted words held = (c : Circuit) × (d : Recording) × (all : Bool) × Accepts words held c d all
-
--- the words ask for the text of a netlist that is held and accepted
-abbrev pub IsPrintable : List (List ℕ) → Held → Type 0
-IsPrintable words held = (netlist : List ℕ) × (c : Circuit) × Prints words netlist × IsNetlistOf held netlist c
-
--- the words ask for a trace of a run of a netlist that is held and accepted, and the names are those of signals, each once, and the cells are not too many
-pub record IsTraceable (words : List (List ℕ)) (held : Held) : Type 0 where
-  pub netlist : List ℕ
-  pub list : List ℕ
-  pub cycles : ℕ
-  pub seed : ℕ
-  pub asked : Traces words netlist cycles seed list
-  pub c : Circuit
-  pub netlist_held : IsNetlistOf held netlist c
-  pub sigs : List Sig
-  pub named : AreNamed c (names_in list) sigs
-  pub few : block_count (length c.drivers) cycles ≤ 4194304
 
 -- The text is the table of what is known, and each execution that matches the dump has each bit of its rows.
 pub record IsSoundTable (words : List (List ℕ)) (text : List ℕ) (held : Held) : Type 0 where
@@ -73,6 +54,22 @@ pub record IsDumpAgain (words : List (List ℕ)) (text : List ℕ) (held : Held)
 abbrev pub NoneMatches : List (List ℕ) → Held → Type 0
 NoneMatches words held = (c : Circuit) × (d : Recording) × (all : Bool) × Accepts words held c d all × ((v : Valuation) → IsExecution (unrolled_over c d.cycles) v → Matches v d.rows → ⊥)
 
--- how a run ends on an accepted netlist and dump: with a table, or with a contradiction
-abbrev pub IsTableOrClash : Status → Type 0
-IsTableOrClash status = (status ≡ statuses.Done) ⊎ (status ≡ statuses.Contradiction)
+-- ---- what is completed
+
+-- nothing else that is asked of this netlist is refused: the names of a trace are those of signals, each once, and the cells are not too many
+abbrev pub IsAllowedOn : Circuit → Request → Type 0
+IsAllowedOn c (restoration netlist dump all) = ⊤
+IsAllowedOn c (simulation netlist cycles seed list) = (sigs : List Sig) × AreNamed c (names_in list) sigs × (block_count (length c.drivers) cycles ≤ 4194304)
+IsAllowedOn c (printing netlist) = ⊤
+IsAllowedOn c (loading number signals) = ⊤
+
+-- the files that are asked for are held and accepted, on one netlist, and so is what is asked of it
+abbrev pub IsAccepted : Held → Request → Type 0
+IsAccepted held request = (c : Circuit) × All (IsAcceptedOn c held) (files_of request) × IsAllowedOn c request
+
+-- how it ends then: a restoration with a table or with a contradiction, and what else is asked for with its text
+abbrev pub IsCompleted : Request → Status → Type 0
+IsCompleted (restoration netlist dump all) status = (status ≡ statuses.Done) ⊎ (status ≡ statuses.Contradiction)
+IsCompleted (simulation netlist cycles seed list) status = status ≡ statuses.Done
+IsCompleted (printing netlist) status = status ≡ statuses.Done
+IsCompleted (loading number signals) status = status ≡ statuses.Done

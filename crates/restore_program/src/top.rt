@@ -3,16 +3,17 @@ ghost use Rattle.std.specs.Prelude.{◌≡◌, ◌≢◌, ◌<◌, ◌⊎◌, Li
 ghost use Rattle.std.specs.String.{string_bytes};
 ghost use Rattle.std.specs.Io.KnownBytes.{append_known};
 ghost use Rattle.sr_outside.specs.Counts.{IsCounted};
-ghost use Rattle.sr_outside.specs.Told.{AppendsPart, IsFull, LacksPlace};
+ghost use Rattle.sr_outside.specs.Told.{AppendsPart, Held, IsFull, LacksPlace};
 ghost use Rattle.restore_program.specs.declared.status.Status.{Status as AnyStatus};
 ghost use Rattle.restore_program.specs.Words.{Gives, IsRestore, IsSimulate, trace_rule};
-ghost use Rattle.restore_program.specs.Faults.{AreRefused, AreSteady, IsFileOf, NeedsNoInput};
+ghost use Rattle.restore_program.specs.Faults.{AreRefused, AreSteady, IsFileOf, NeedsNoInput, TellsEnough};
 ghost use Rattle.restore_program.specs.ReplyAnswers.{IsOfWords, ReplyAnswer, fault_of};
 ghost use Rattle.restore_program.specs.Reads.{Reads};
+ghost use Rattle.restore_program.specs.Requests.{Asks, Request};
 ghost use Rattle.restore_program.specs.Says.{Says};
 ghost use Rattle.restore_program.specs.Status.{IsPlain};
 ghost use Rattle.restore_program.specs.Reply.{HasBuffer, IsReady, status_of};
-ghost use Rattle.restore_program.specs.Sound.{IsAccepted, IsDumpAgain, IsPrintable, IsSoundTable, IsTableOrClash, IsTraceable, NoneMatches};
+ghost use Rattle.restore_program.specs.Sound.{IsAccepted, IsCompleted, IsDumpAgain, IsSoundTable, NoneMatches};
 
 use crate::load::load_reply;
 use crate::print::print_reply;
@@ -56,14 +57,10 @@ pub fn run<R: Threads + Sync, I: Inputs, K: Sink>(
     // A contradiction is written only where no execution matches the dump.
     ensures contradiction { result ≡ Status.Contradiction → IfSome (I.held inputs.old) (NoneMatches (map string_bytes words.now)) }
 
-    // An accepted netlist and dump end in a table or a contradiction, unless memory, reading or writing fails.
-    ensures accepted { IfSome (I.held inputs.old) (λ held. IsAccepted (map string_bytes words.now) held → IsPlain result → IsTableOrClash result) }
-
-    // The text of an accepted netlist is printed, unless memory, reading or writing fails.
-    ensures printed { IfSome (I.held inputs.old) (λ held. IsPrintable (map string_bytes words.now) held → IsPlain result → result ≡ Status.Done) }
-
-    // The dump of a run is written where the netlist, the names and the number of cycles are accepted, unless memory, reading or writing fails.
-    ensures traced { IfSome (I.held inputs.old) (λ held. IsTraceable (map string_bytes words.now) held → IsPlain result → result ≡ Status.Done) }
+    // What is asked for is completed where its files are accepted, and the names and the cells of a trace, unless memory, reading or writing fails: with a table or a
+    // contradiction, the text of the netlist, the dump of the run, or the line of a load.
+    ensures completed { (held : Held) (request : Request) → TellsEnough (map string_bytes words.now) (I.held inputs.old) held → Asks (map string_bytes words.now) request
+        → IsAccepted held request → IsPlain result → IsCompleted request result }
 
     // Words that are refused, and `load`, start no input. Behind a netlist only the names of a trace can be refused.
     ensures usage { result ≡ Status.Words → AreRefused (map string_bytes words.now) ⊎ IsSimulate (map string_bytes words.now) }

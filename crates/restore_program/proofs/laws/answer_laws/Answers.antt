@@ -1,4 +1,4 @@
-use Rattle.restore_program.proofs.OneAnswer.{one_answer, accepted_is_answered, printable_is_printed, traceable_is_traced}
+use Rattle.restore_program.proofs.OneAnswer.{one_answer, accepted_is_completed}
 use Rattle.restore_program.proofs.SimulatedTraces.{trace_is_simulated}
 use Rattle.restore_program.proofs.AnswerExists.{answer_exists}
 use Rattle.restore_program.proofs.laws.answer_laws.Goals as goal
@@ -9,14 +9,8 @@ returns-clause-exists c = answer_exists
 pub returns-clause-one_answer : goal.returns-clause-one_answer
 returns-clause-one_answer c = one_answer
 
-pub returns-clause-accepted : goal.returns-clause-accepted
-returns-clause-accepted c = accepted_is_answered
-
-pub returns-clause-printable : goal.returns-clause-printable
-returns-clause-printable c = printable_is_printed
-
-pub returns-clause-traceable : goal.returns-clause-traceable
-returns-clause-traceable c = traceable_is_traced
+pub returns-clause-completed : goal.returns-clause-completed
+returns-clause-completed c = accepted_is_completed
 
 pub returns-clause-simulated : goal.returns-clause-simulated
 returns-clause-simulated c = trace_is_simulated

@@ -1,14 +1,12 @@
-use Rattle.std.proofs.Common.{◌≡◌, List, ℕ, Option, map, sym, subst, ◌∙◌, refl, inl, inr}
-use Rattle.std.specs.Prelude.{IfSome}
+use Rattle.std.proofs.Common.{List, ℕ, Option, map, sym, subst, ◌∙◌, refl, inl, inr}
 use Rattle.std.specs.String.{string_bytes}
 use Rattle.sr_outside.specs.Told.{Held}
 use Rattle.restore_program.specs.Says.{Says}
 use Rattle.restore_program.specs.Status.{IsPlain}
 use Rattle.restore_program.specs.Reply.{status_of, text_of}
-use Rattle.restore_program.specs.Sound.{IsAccepted, IsPrintable, IsTableOrClash, IsTraceable}
-use Rattle.restore_program.specs.declared.status.Status.TheVariants as statuses
+use Rattle.restore_program.specs.Sound.{IsCompleted}
 use Rattle.restore_program.proofs.Answering.{says}
-use Rattle.restore_program.proofs.Sounding.{again_reply, clash_reply, finishes, prints, sound_reply, traces}
+use Rattle.restore_program.proofs.Sounding.{again_reply, clash_reply, completes, sound_reply}
 use Rattle.restore_program.proofs.WordStatuses.{status_of_words}
 use Rattle.restore_program.proofs.top.run.Goals as goal
 
@@ -40,23 +38,10 @@ pub returns-in-Ok-clause-contradiction : goal.returns-in-Ok-clause-contradiction
 returns-in-Ok-clause-contradiction g c e =
     clash_reply (map string_bytes c.args.words.now) c.prepared_reply-reply.result.reply (g.I.Inputs.held c.args.inputs.now) c.prepared_reply-reply.ensures.answer (sym c.reply_status-status.ensures ∙ e)
 
-pub returns-in-Ok-clause-accepted : goal.returns-in-Ok-clause-accepted
-returns-in-Ok-clause-accepted g c =
-    let words : List (List ℕ) = map string_bytes c.args.words.now in
-    subst (λ status. IfSome (g.I.Inputs.held c.args.inputs.now) (λ held. IsAccepted words held → IsPlain status → IsTableOrClash status)) (sym c.reply_status-status.ensures)
-    (finishes words c.prepared_reply-reply.result.reply (g.I.Inputs.held c.args.inputs.now) c.prepared_reply-reply.ensures.answer)
-
-pub returns-in-Ok-clause-printed : goal.returns-in-Ok-clause-printed
-returns-in-Ok-clause-printed g c =
-    let words : List (List ℕ) = map string_bytes c.args.words.now in
-    subst (λ status. IfSome (g.I.Inputs.held c.args.inputs.now) (λ held. IsPrintable words held → IsPlain status → status ≡ statuses.Done)) (sym c.reply_status-status.ensures)
-    (prints words c.prepared_reply-reply.result.reply (g.I.Inputs.held c.args.inputs.now) c.prepared_reply-reply.ensures.answer)
-
-pub returns-in-Ok-clause-traced : goal.returns-in-Ok-clause-traced
-returns-in-Ok-clause-traced g c =
-    let words : List (List ℕ) = map string_bytes c.args.words.now in
-    subst (λ status. IfSome (g.I.Inputs.held c.args.inputs.now) (λ held. IsTraceable words held → IsPlain status → status ≡ statuses.Done)) (sym c.reply_status-status.ensures)
-    (traces words c.prepared_reply-reply.result.reply (g.I.Inputs.held c.args.inputs.now) c.prepared_reply-reply.ensures.answer)
+pub returns-in-Ok-clause-completed : goal.returns-in-Ok-clause-completed
+returns-in-Ok-clause-completed g c held request enough asks accepted =
+    subst (λ status. IsPlain status → IsCompleted request status) (sym c.reply_status-status.ensures)
+    (completes (map string_bytes c.args.words.now) c.prepared_reply-reply.result.reply (g.I.Inputs.held c.args.inputs.now) c.prepared_reply-reply.ensures.answer held request enough asks accepted)
 
 pub returns-in-Ok-clause-usage : goal.returns-in-Ok-clause-usage
 returns-in-Ok-clause-usage g c e =
