@@ -17,6 +17,7 @@ use Rattle.bench_reader.specs.Printed.{bench_text}
 use Rattle.bench_reader.proofs.ReadOrRefused as bench
 use Rattle.dump_reader.specs.Grammar.{block_count}
 use Rattle.dump_reader.specs.Print.{printed}
+use Rattle.dump_reader.specs.Recording.{Recording}
 use Rattle.dump_reader.proofs.ReadOrRefused as dumps
 use Rattle.known_planes.specs.Counts.{known_count}
 use Rattle.ratio.specs.Ratio.{Counts}
@@ -33,7 +34,7 @@ use Rattle.report.specs.Refusals.{many_cells_line, trace_twice_line, unknown_tra
 use Rattle.report.specs.Table.{table_text}
 use Rattle.restore_program.specs.declared.status.Status.{Status}
 use Rattle.restore_program.specs.declared.status.Status.TheVariants as statuses
-use Rattle.restore_program.specs.Answer.{most_bytes, IsNetlistText, RefusedNetlist, netlist_too_long, bad_line, no_netlist, traced_count, OnDump, dump_too_long, bad_dump, clash, table, IsNetlistOf, OnNetlist, RequestAnswer, usage, bad_number, asked}
+use Rattle.restore_program.specs.Answer.{most_bytes, IsNetlistText, RefusedNetlist, netlist_too_long, bad_line, no_netlist, traced_count, OnDump, OnRecording, dump_too_long, bad_dump, clash, table, IsNetlistOf, OnNetlist, RequestAnswer, usage, bad_number, asked}
 use Rattle.restore_program.specs.AnswerLaws.{AnswerExists, IsServed}
 use Rattle.restore_program.specs.Loading.{IsLoadText, load_circuit, load_cycles, load_traced}
 use Rattle.restore_program.specs.Requests.{Request, Asks, restoration, simulation, printing, loading}
@@ -56,7 +57,7 @@ held_bytes (Some bytes) some = (bytes, refl)
 -- ---- texts
 
 netlist_decided : (bytes : List ℕ) → Some_text (RefusedNetlist bytes) ⊎ ((c : Circuit) × IsNetlistText bytes c)
-netlist_decided bytes = elim (cases_lt most_bytes (length bytes)) [
+netlist_decided bytes = elim (cases_lt (most_bytes parts.Netlist) (length bytes)) [
   | inl long ↦ inl (too_long_line parts.Netlist, statuses.Netlist, netlist_too_long long)
   | inr short ↦ elim (bench.read_or_refused bytes) [
     | inr (r, is, some) ↦ inl (bench_line r, statuses.Netlist, bad_line r short some is)
@@ -67,17 +68,20 @@ netlist_decided bytes = elim (cases_lt most_bytes (length bytes)) [
   ]
 ]
 
+recording_decided : (c : Circuit) (d : Recording) (all : Bool) → Some_text (OnRecording c d all)
+recording_decided c d all = elim (dump_clash_or_none (unrolled_over c d.cycles) d.rows) [
+  | inr (cell, level, is) ↦ (clash_line c cell, statuses.Contradiction, clash cell (level, is))
+  | inl consistent ↦
+      let known = closure_test (unrolled_over c d.cycles) (dump_has d.rows) in
+      (table_text c d.cycles known.0 (traced_count c d) all, statuses.Done, table known.0 known.1 (λ cell both. consistent cell (known.1.0 _ both.0, known.1.0 _ both.1)))
+]
+
 dump_decided : (c : Circuit) (bytes : List ℕ) (all : Bool) → Some_text (OnDump c bytes all)
-dump_decided c bytes all = elim (cases_lt most_bytes (length bytes)) [
-  | inl long ↦ (too_long_line parts.Dump, statuses.Dump, dump_too_long long)
+dump_decided c bytes all = elim (cases_lt (most_bytes parts.Dump) (length bytes)) [
+  | inl long ↦ (too_long_line parts.Dump, statuses.Dump, inl (dump_too_long long))
   | inr short ↦ elim (dumps.read_or_refused c bytes) [
-    | inr (r, is, some) ↦ (dump_line r, statuses.Dump, bad_dump r short some is)
-    | inl (d, spells) ↦ elim (dump_clash_or_none (unrolled_over c d.cycles) d.rows) [
-      | inr (cell, level, is) ↦ (clash_line c cell, statuses.Contradiction, clash d cell (short, spells) (level, is))
-      | inl consistent ↦
-          let known = closure_test (unrolled_over c d.cycles) (dump_has d.rows) in
-          (table_text c d.cycles known.0 (traced_count c d) all, statuses.Done, table d known.0 (short, spells) known.1 (λ cell both. consistent cell (known.1.0 _ both.0, known.1.0 _ both.1)))
-    ]
+    | inr (r, is, some) ↦ (dump_line r, statuses.Dump, inl (bad_dump r short some is))
+    | inl (d, spells) ↦ let (text, status, on) = recording_decided c d all in (text, status, inr (d, (short, spells), on))
   ]
 ]
 

@@ -4,7 +4,6 @@ use Rattle.std.proofs.Math.Seq.{get_or-append_seam}
 use Rattle.std.proofs.lemmas.List.{length-append}
 use Rattle.std.specs.Prelude.{IfSome, IsNone, IsErrOf, Result, Err}
 use Rattle.sr_model.specs.Room.{WithRoom}
-use Rattle.sr_model.specs.declared.cells.Cell.{Cell}
 use Rattle.sr_model.specs.declared.cells.Lit.{Lit}
 use Rattle.sr_model.specs.declared.statements.Numbered.{Numbered}
 use Rattle.sr_model.specs.Declaration.{Declaration, declared, declarations_of, declaration_of}
@@ -34,7 +33,6 @@ use Rattle.report.specs.declared.refusal.Refusal.{Refusal}
 use Rattle.report.specs.declared.refusal.Refusal.TheVariants as refusals
 use Rattle.report.specs.declared.refusal.WordRefusal.{WordRefusal}
 use Rattle.report.specs.declared.refusal.WordRefusal.TheVariants as word_refusals
-use Rattle.report.specs.Clash.{clash_line}
 use Rattle.report.specs.InputRefusals.{too_long_line}
 use Rattle.report.specs.Refusals.{HasItem, WordIsThere, item_of, trace_twice_line, unknown_trace_line}
 use Rattle.report.specs.Table.{table_text}
@@ -43,7 +41,7 @@ use Rattle.restore_program.specs.declared.reply.Reply.TheVariants as replies
 use Rattle.restore_program.specs.declared.status.Status.{Status}
 use Rattle.restore_program.specs.declared.status.Status.TheVariants as statuses
 use Rattle.restore_program.specs.declared.words.Settings.{Settings}
-use Rattle.restore_program.specs.Outcome.{IsFirstClash, IsKnown, IsTraced}
+use Rattle.restore_program.specs.Outcome.{IsKnown, IsTraced}
 use Rattle.restore_program.specs.Reply.{IsReady, text_of, status_of, refusal_status}
 use Rattle.restore_program.specs.Requests.{Request, Asks}
 use Rattle.restore_program.specs.TraceRefusals.{HasListAt, IsItem, IsTraceRefusal, list_refusal}
@@ -53,7 +51,7 @@ use Rattle.restore_program.specs.declared.trace.TraceRefusal.TheVariants as trac
 use Rattle.restore_program.specs.WordMeaning.{Means}
 use Rattle.restore_program.specs.Words.{IsBadNumber, IsCommand}
 use Rattle.restore_program.proofs.Gifts.{bad_has_key}
-use Rattle.restore_program.specs.Answer.{most_bytes, IsNetlistText, RefusedNetlist, netlist_too_long, bad_line, no_netlist, IsDumpText, IsDumpRefusal, OnDump, dump_too_long, bad_dump, clash, table, IsNetlistOf, OnNetlist, OnRefused, DumpAnswer, RequestAnswer, Answer, usage, bad_number, asked}
+use Rattle.restore_program.specs.Answer.{most_bytes, IsNetlistText, RefusedNetlist, netlist_too_long, bad_line, no_netlist, IsDumpRefusal, OnDump, OnRecording, dump_too_long, bad_dump, table, IsNetlistOf, OnNetlist, OnRefused, DumpAnswer, RequestAnswer, Answer, usage, bad_number, asked}
 use Rattle.restore_program.specs.Faults.{AreRefused, NeedsNoInput, TellsEnough, IsWordsFault}
 use Rattle.restore_program.specs.ReplyAnswers.{Replies, IsOfWords, ReplyAnswer, fault_of, refusal_fault, unread_refusal}
 use Rattle.restore_program.specs.Says.{Says}
@@ -65,14 +63,10 @@ abbrev over : Circuit → Recording → Unrolling
 over c d = record { circuit = c; cycles = d.cycles }
 
 -- the table of what is known
-pub table_answer : (c : Circuit) (d : Recording) (all : Bool) (planes : PlaneSet) (traced : ℕ) (bytes : List ℕ) → IsKnown (over c d) d.rows planes → IsTraced (over c d) d.rows traced → IsDumpText c bytes d
-    → OnDump c bytes all (table_text c d.cycles (has (over c d) planes) traced all) statuses.Done
-table_answer c d all planes traced bytes is counted read =
-    subst (λ n. OnDump c bytes all (table_text c d.cycles (has (over c d) planes) n all) statuses.Done) (sym counted.0) (table d (has (over c d) planes) read is.known is.no_clash)
-
--- a contradiction
-pub clash_answer : (c : Circuit) (d : Recording) (all : Bool) (cell : Cell) (bytes : List ℕ) → IsFirstClash (over c d) d.rows cell → IsDumpText c bytes d → OnDump c bytes all (clash_line c cell) statuses.Contradiction
-clash_answer c d all cell bytes first read = clash d cell read first.1
+pub table_answer : (c : Circuit) (d : Recording) (all : Bool) (planes : PlaneSet) (traced : ℕ) → IsKnown (over c d) d.rows planes → IsTraced (over c d) d.rows traced
+    → OnRecording c d all (table_text c d.cycles (has (over c d) planes) traced all) statuses.Done
+table_answer c d all planes traced is counted =
+    subst (λ n. OnRecording c d all (table_text c d.cycles (has (over c d) planes) n all) statuses.Done) (sym counted.0) (table (has (over c d) planes) is.known is.no_clash)
 
 -- what is known from literals that are those of a dump
 pub known_from : (u : Unrolled) (rows : List Row) (base : Lit → Bool) (known : LitSet) → ((l : Lit) → base l ≡ dump_has rows l) → SameLits known (Closure u (passing base)) → SameLits known (Known u rows)
@@ -88,7 +82,7 @@ without_lines-of [] = refl
 without_lines-of (s ∷ numbered) = ap (λ (ds : List Declaration). declaration_of s.statement ∷ ds) (without_lines-of numbered)
 
 -- statements of a text that stand for a netlist
-pub netlist_text : (bytes : List ℕ) (s : WithRoom Numbered) (c : Circuit) → length bytes ≤ most_bytes → grammar.Spells bytes (declarations_of s) → IsNetlist (declared s) → c ≡ circuit_of (declared s)
+pub netlist_text : (bytes : List ℕ) (s : WithRoom Numbered) (c : Circuit) → length bytes ≤ most_bytes parts.Netlist → grammar.Spells bytes (declarations_of s) → IsNetlist (declared s) → c ≡ circuit_of (declared s)
     → IsNetlistText bytes c
 netlist_text bytes s c short spells is e = record {
   few = short;
@@ -98,14 +92,14 @@ netlist_text bytes s c short spells is e = record {
   circuit = e ∙ ap circuit_of (sym (without_lines-of s.items));
 }
 
-pub bad_bench : (words : List (List ℕ)) (bytes : List ℕ) (r : BenchRefusal) → length bytes ≤ most_bytes → bench_refusal.IsRefusal bytes r → Replies words (RefusedNetlist bytes) (replies.Refused (refusals.Bench r))
+pub bad_bench : (words : List (List ℕ)) (bytes : List ℕ) (r : BenchRefusal) → length bytes ≤ most_bytes parts.Netlist → bench_refusal.IsRefusal bytes r → Replies words (RefusedNetlist bytes) (replies.Refused (refusals.Bench r))
 bad_bench words bytes bench.NoMemory short is = λ plain. absurd plain
 bad_bench words bytes (bench.Syntax line) short is = λ _. bad_line (bench.Syntax line) short (λ e. absurd cc) is
 bad_bench words bytes (bench.NameLong line) short is = λ _. bad_line (bench.NameLong line) short (λ e. absurd cc) is
 bad_bench words bytes (bench.UnknownKind line) short is = λ _. bad_line (bench.UnknownKind line) short (λ e. absurd cc) is
 bad_bench words bytes (bench.WrongPins line) short is = λ _. bad_line (bench.WrongPins line) short (λ e. absurd cc) is
 
-pub bad_net : (words : List (List ℕ)) (bytes : List ℕ) (stated : List (ℕ × Declaration)) (r : NetRefusal) → length bytes ≤ most_bytes → grammar.Spells bytes stated → checks.IsRefusal stated r
+pub bad_net : (words : List (List ℕ)) (bytes : List ℕ) (stated : List (ℕ × Declaration)) (r : NetRefusal) → length bytes ≤ most_bytes parts.Netlist → grammar.Spells bytes stated → checks.IsRefusal stated r
     → Replies words (RefusedNetlist bytes) (replies.Refused (refusals.Net r))
 bad_net words bytes stated net.NoMemory short spells is = λ plain. absurd plain
 bad_net words bytes stated (net.TooManySignals line) short spells is = λ _. no_netlist stated (net.TooManySignals line) short (λ e. absurd cc) spells is
@@ -114,16 +108,16 @@ bad_net words bytes stated (net.TwoDrivers line) short spells is = λ _. no_netl
 bad_net words bytes stated (net.NoDriver name) short spells is = λ _. no_netlist stated (net.NoDriver name) short (λ e. absurd cc) spells is
 bad_net words bytes stated (net.Loop name count) short spells is = λ _. no_netlist stated (net.Loop name count) short (λ e. absurd cc) spells is
 
-pub bad_dumped : (words : List (List ℕ)) (c : Circuit) (bytes : List ℕ) (all : Bool) (r : DumpRefusal) → length bytes ≤ most_bytes → IsDumpRefusal c bytes r → Replies words (OnDump c bytes all) (replies.Refused (refusals.Dumped r))
+pub bad_dumped : (words : List (List ℕ)) (c : Circuit) (bytes : List ℕ) (all : Bool) (r : DumpRefusal) → length bytes ≤ most_bytes parts.Dump → IsDumpRefusal c bytes r → Replies words (OnDump c bytes all) (replies.Refused (refusals.Dumped r))
 bad_dumped words c bytes all dumps.NoMemory short is = λ plain. absurd plain
-bad_dumped words c bytes all (dumps.Head line) short is = λ _. bad_dump (dumps.Head line) short (λ e. absurd cc) is
-bad_dumped words c bytes all (dumps.Cycles line) short is = λ _. bad_dump (dumps.Cycles line) short (λ e. absurd cc) is
-bad_dumped words c bytes all (dumps.TooManyCells line product) short is = λ _. bad_dump (dumps.TooManyCells line product) short (λ e. absurd cc) is
-bad_dumped words c bytes all (dumps.RowSyntax line) short is = λ _. bad_dump (dumps.RowSyntax line) short (λ e. absurd cc) is
-bad_dumped words c bytes all (dumps.UnknownSignal line) short is = λ _. bad_dump (dumps.UnknownSignal line) short (λ e. absurd cc) is
-bad_dumped words c bytes all (dumps.TwiceNamed line) short is = λ _. bad_dump (dumps.TwiceNamed line) short (λ e. absurd cc) is
-bad_dumped words c bytes all (dumps.RowLength line) short is = λ _. bad_dump (dumps.RowLength line) short (λ e. absurd cc) is
-bad_dumped words c bytes all (dumps.BadBit line) short is = λ _. bad_dump (dumps.BadBit line) short (λ e. absurd cc) is
+bad_dumped words c bytes all (dumps.Head line) short is = λ _. inl (bad_dump (dumps.Head line) short (λ e. absurd cc) is)
+bad_dumped words c bytes all (dumps.Cycles line) short is = λ _. inl (bad_dump (dumps.Cycles line) short (λ e. absurd cc) is)
+bad_dumped words c bytes all (dumps.TooManyCells line product) short is = λ _. inl (bad_dump (dumps.TooManyCells line product) short (λ e. absurd cc) is)
+bad_dumped words c bytes all (dumps.RowSyntax line) short is = λ _. inl (bad_dump (dumps.RowSyntax line) short (λ e. absurd cc) is)
+bad_dumped words c bytes all (dumps.UnknownSignal line) short is = λ _. inl (bad_dump (dumps.UnknownSignal line) short (λ e. absurd cc) is)
+bad_dumped words c bytes all (dumps.TwiceNamed line) short is = λ _. inl (bad_dump (dumps.TwiceNamed line) short (λ e. absurd cc) is)
+bad_dumped words c bytes all (dumps.RowLength line) short is = λ _. inl (bad_dump (dumps.RowLength line) short (λ e. absurd cc) is)
+bad_dumped words c bytes all (dumps.BadBit line) short is = λ _. inl (bad_dump (dumps.BadBit line) short (λ e. absurd cc) is)
 
 -- ---- a list of names that is refused
 
@@ -164,7 +158,7 @@ whole refusal = Err refusal
 
 -- what is written of a dump that was not read
 pub unread_dump : (words : List (List ℕ)) (told : Option Held) (c : Circuit) (name : List ℕ) (all : Bool) (refusal : ReadRefusal)
-    → (IsErrOf (whole refusal) reads.TooLong → IfSome told (λ held. IfSome (held name) (λ bytes. most_bytes < length bytes)))
+    → (IsErrOf (whole refusal) reads.TooLong → IfSome told (λ held. IfSome (held name) (λ bytes. most_bytes parts.Dump < length bytes)))
     → IfSome told (λ held. IsNone (held name) → IsErrOf (whole refusal) reads.Fault)
     → IfSome told (λ held. Replies words (DumpAnswer held c name all) (replies.Refused (unread_refusal parts.Dump refusal)))
 unread_dump words None c name all refusal long missing = tt
@@ -173,11 +167,11 @@ unread_dump words (Some held) c name all reads.NoMemory long missing = λ plain.
 unread_dump words (Some held) c name all reads.TooLong long missing = λ _. at (held name) refl where
   at : (there : Option (List ℕ)) → held name ≡ there → DumpAnswer held c name all (too_long_line parts.Dump) statuses.Dump
   at None e = let no : whole reads.TooLong ≡ whole reads.Fault = missing (subst IsNone (sym e) refl) in absurd cc
-  at (Some bytes) e = (bytes, e, dump_too_long (subst (λ o. IfSome o (λ b. most_bytes < length b)) e (long refl)))
+  at (Some bytes) e = (bytes, e, inl (dump_too_long (subst (λ o. IfSome o (λ b. most_bytes parts.Dump < length b)) e (long refl))))
 
 -- what is written of a netlist that was not read
 pub unread_netlist : (words : List (List ℕ)) (told : Option Held) (name : List ℕ) (refusal : ReadRefusal)
-    → (IsErrOf (whole refusal) reads.TooLong → IfSome told (λ held. IfSome (held name) (λ bytes. most_bytes < length bytes)))
+    → (IsErrOf (whole refusal) reads.TooLong → IfSome told (λ held. IfSome (held name) (λ bytes. most_bytes parts.Netlist < length bytes)))
     → IfSome told (λ held. IsNone (held name) → IsErrOf (whole refusal) reads.Fault)
     → IfSome told (λ held. Replies words (OnRefused held name) (replies.Refused (unread_refusal parts.Netlist refusal)))
 unread_netlist words None name refusal long missing = tt
@@ -186,7 +180,7 @@ unread_netlist words (Some held) name reads.NoMemory long missing = λ plain. ab
 unread_netlist words (Some held) name reads.TooLong long missing = λ _. at (held name) refl where
   at : (there : Option (List ℕ)) → held name ≡ there → OnRefused held name (too_long_line parts.Netlist) statuses.Netlist
   at None e = let no : whole reads.TooLong ≡ whole reads.Fault = missing (subst IsNone (sym e) refl) in absurd cc
-  at (Some bytes) e = (bytes, e, netlist_too_long (subst (λ o. IfSome o (λ b. most_bytes < length b)) e (long refl)))
+  at (Some bytes) e = (bytes, e, netlist_too_long (subst (λ o. IfSome o (λ b. most_bytes parts.Netlist < length b)) e (long refl)))
 
 -- such a reply is ready
 pub unread_ready : (words : List (List ℕ)) (part : Part) (refusal : ReadRefusal) → IsReady words (replies.Refused (unread_refusal part refusal))

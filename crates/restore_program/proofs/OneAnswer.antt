@@ -26,12 +26,13 @@ use Rattle.dump_reader.proofs.RefusedOnce as dump_laws
 use Rattle.report.specs.Clash.{clash_line}
 use Rattle.report.specs.InputRefusals.{bench_line, net_line, dump_line}
 use Rattle.report.specs.Refusals.{word_line}
+use Rattle.report.specs.declared.refusal.Part.{Part}
 use Rattle.report.specs.declared.refusal.Part.TheVariants as parts
 use Rattle.report.specs.declared.refusal.WordRefusal.TheVariants as word_refusals
 use Rattle.report.specs.Table.{table_text}
 use Rattle.restore_program.specs.declared.status.Status.{Status}
 use Rattle.restore_program.specs.declared.status.Status.TheVariants as statuses
-use Rattle.restore_program.specs.Answer.{most_bytes, IsNetlistText, RefusedNetlist, netlist_too_long, bad_line, no_netlist, IsClashOf, IsDumpText, KnownFrom, traced_count, OnDump, dump_too_long, bad_dump, clash, table, IsNetlistOf, OnNetlist, OnPrint, OnRefused, DumpAnswer, RequestAnswer, Answer, usage, bad_number, asked}
+use Rattle.restore_program.specs.Answer.{most_bytes, IsNetlistText, RefusedNetlist, netlist_too_long, bad_line, no_netlist, IsClashOf, IsDumpText, KnownFrom, traced_count, OnDump, OnRecording, RefusedDump, dump_too_long, bad_dump, clash, table, IsNetlistOf, OnNetlist, OnPrint, OnRefused, DumpAnswer, RequestAnswer, Answer, usage, bad_number, asked}
 use Rattle.restore_program.specs.AnswerLaws.{HasOneAnswer, AcceptedIsCompleted}
 use Rattle.restore_program.specs.Requests.{Request, Asks, restoration, simulation, printing, loading}
 use Rattle.restore_program.specs.Sound.{IsAccepted, IsCompleted}
@@ -43,8 +44,8 @@ use Rattle.restore_program.proofs.OneTrace.{one_on_trace, traced_done}
 use Rattle.restore_program.proofs.SameTests.{same_test}
 
 -- no list is both too long and not
-not_longer : (bytes : List ℕ) → length bytes ≤ most_bytes → most_bytes < length bytes → ⊥
-not_longer bytes short long = omega (arith, short, long)
+not_longer : (part : Part) (bytes : List ℕ) → length bytes ≤ most_bytes part → most_bytes part < length bytes → ⊥
+not_longer part bytes short long = omega (arith, short, long)
 
 -- an input holds one list of bytes
 same_held : (held : Held) (name bytes other : List ℕ) → held name ≡ Some bytes → held name ≡ Some other → bytes ≡ other
@@ -67,7 +68,7 @@ is_circuit bytes c a =
 
 -- a text of a netlist is not refused
 refused_or_read : (bytes : List ℕ) (c : Circuit) (text : List ℕ) (status : Status) → RefusedNetlist bytes text status → IsNetlistText bytes c → ⊥
-refused_or_read bytes c text status (netlist_too_long long) a = not_longer bytes a.few long
+refused_or_read bytes c text status (netlist_too_long long) a = not_longer parts.Netlist bytes a.few long
 refused_or_read bytes c text status (bad_line r short some is) a = some (texts.not_both bytes a.stated r a.spells is)
 refused_or_read bytes c text status (no_netlist stated r short some spells is) a =
     let same : stated ≡ a.stated = texts.one_reading 1 (grammar.text_lines bytes) stated a.stated spells a.spells in
@@ -115,12 +116,12 @@ same_line net.NoMemory (net.Loop b n) e = absurd e
 
 one_refusal : (bytes text other : List ℕ) (status last : Status) → RefusedNetlist bytes text status → RefusedNetlist bytes other last → (text ≡ other) × (status ≡ last)
 one_refusal bytes text other status last (netlist_too_long long) (netlist_too_long _) = (refl, refl)
-one_refusal bytes text other status last (netlist_too_long long) (bad_line _ short _ _) = absurd (not_longer bytes short long)
-one_refusal bytes text other status last (netlist_too_long long) (no_netlist _ _ short _ _ _) = absurd (not_longer bytes short long)
-one_refusal bytes text other status last (bad_line _ short _ _) (netlist_too_long long) = absurd (not_longer bytes short long)
+one_refusal bytes text other status last (netlist_too_long long) (bad_line _ short _ _) = absurd (not_longer parts.Netlist bytes short long)
+one_refusal bytes text other status last (netlist_too_long long) (no_netlist _ _ short _ _ _) = absurd (not_longer parts.Netlist bytes short long)
+one_refusal bytes text other status last (bad_line _ short _ _) (netlist_too_long long) = absurd (not_longer parts.Netlist bytes short long)
 one_refusal bytes text other status last (bad_line r _ some is) (bad_line s _ some_s is_s) = (ap bench_line (texts.one_refusal bytes r s is is_s some some_s), refl)
 one_refusal bytes text other status last (bad_line r _ some is) (no_netlist stated _ _ _ spells _) = absurd (some (texts.not_both bytes stated r spells is))
-one_refusal bytes text other status last (no_netlist _ _ short _ _ _) (netlist_too_long long) = absurd (not_longer bytes short long)
+one_refusal bytes text other status last (no_netlist _ _ short _ _ _) (netlist_too_long long) = absurd (not_longer parts.Netlist bytes short long)
 one_refusal bytes text other status last (no_netlist stated _ _ _ spells _) (bad_line r _ some is) = absurd (some (texts.not_both bytes stated r spells is))
 one_refusal bytes text other status last (no_netlist stated r _ some spells is) (no_netlist again s _ some_s spells_s is_s) =
     let same : stated ≡ again = texts.one_reading 1 (grammar.text_lines bytes) stated again spells spells_s in
@@ -153,33 +154,36 @@ clash_known c d cell (i, first) =
     let within = level_in_Closure (unrolled_over c d.cycles) (passing (dump_has d.rows)) i in (within (lit cell false) first.least_cell.both.0, within (lit cell true) first.least_cell.both.1)
 
 -- so there is no table
-no_table : (c : Circuit) (a b : Recording) (cell : Cell) (test : Lit → Bool) → a ≡ b → IsClashOf c a cell → SameLits (passing test) (KnownFrom c b) → ((x : Cell) → HasBoth (passing test) x → ⊥) → ⊥
-no_table c a b cell test same is passes no_clash =
-    let both : HasBoth (KnownFrom c b) cell = clash_known c b cell (subst (λ d. IsClashOf c d cell) same is) in no_clash cell (passes.1 (lit cell false) both.0, passes.1 (lit cell true) both.1)
+no_table : (c : Circuit) (d : Recording) (cell : Cell) (test : Lit → Bool) → IsClashOf c d cell → SameLits (passing test) (KnownFrom c d) → ((x : Cell) → HasBoth (passing test) x → ⊥) → ⊥
+no_table c d cell test is passes no_clash =
+    let both : HasBoth (KnownFrom c d) cell = clash_known c d cell is in no_clash cell (passes.1 (lit cell false) both.0, passes.1 (lit cell true) both.1)
 
 -- ---- one answer to a dump
 
+one_dump_refusal : (c : Circuit) (bytes text other : List ℕ) (status last : Status) → IsCircuit c → RefusedDump c bytes text status → RefusedDump c bytes other last → (text ≡ other) × (status ≡ last)
+one_dump_refusal c bytes text other status last circuit (dump_too_long long) (dump_too_long _) = (refl, refl)
+one_dump_refusal c bytes text other status last circuit (dump_too_long long) (bad_dump _ short _ _) = absurd (not_longer parts.Dump bytes short long)
+one_dump_refusal c bytes text other status last circuit (bad_dump _ short _ _) (dump_too_long long) = absurd (not_longer parts.Dump bytes short long)
+one_dump_refusal c bytes text other status last circuit (bad_dump r _ some is) (bad_dump s _ some_s is_s) = (ap dump_line (dump_laws.one_refusal c bytes r s circuit is is_s some some_s), refl)
+
+-- a dump's text is not refused
+dump_or_refused : (c : Circuit) (bytes : List ℕ) (d : Recording) (text : List ℕ) (status : Status) → IsCircuit c → RefusedDump c bytes text status → IsDumpText c bytes d → ⊥
+dump_or_refused c bytes d text status circuit (dump_too_long long) is = not_longer parts.Dump bytes is.0 long
+dump_or_refused c bytes d text status circuit (bad_dump r _ some bad) is = some (dump_laws.not_both c bytes d r circuit is.1 bad)
+
+one_on_recording : (c : Circuit) (d : Recording) (all : Bool) (text other : List ℕ) (status last : Status) → OnRecording c d all text status → OnRecording c d all other last → (text ≡ other) × (status ≡ last)
+one_on_recording c d all text other status last (clash cell is) (clash next is_too) = (ap (clash_line c) (one_clash c d cell next is is_too), refl)
+one_on_recording c d all text other status last (clash cell is) (table test passes no_clash) = absurd (no_table c d cell test is passes no_clash)
+one_on_recording c d all text other status last (table test passes no_clash) (clash cell is) = absurd (no_table c d cell test is passes no_clash)
+one_on_recording c d all text other status last (table test passes _) (table final passes_final _) =
+    (ap (λ known. table_text c d.cycles known (traced_count c d) all) (same_test (KnownFrom c d) test final passes passes_final), refl)
+
 one_on_dump : (c : Circuit) (bytes : List ℕ) (all : Bool) (text other : List ℕ) (status last : Status) → IsCircuit c → OnDump c bytes all text status → OnDump c bytes all other last → (text ≡ other) × (status ≡ last)
-one_on_dump c bytes all text other status last circuit (dump_too_long long) (dump_too_long _) = (refl, refl)
-one_on_dump c bytes all text other status last circuit (dump_too_long long) (bad_dump _ short _ _) = absurd (not_longer bytes short long)
-one_on_dump c bytes all text other status last circuit (dump_too_long long) (clash _ _ is _) = absurd (not_longer bytes is.0 long)
-one_on_dump c bytes all text other status last circuit (dump_too_long long) (table _ _ is _ _) = absurd (not_longer bytes is.0 long)
-one_on_dump c bytes all text other status last circuit (bad_dump _ short _ _) (dump_too_long long) = absurd (not_longer bytes short long)
-one_on_dump c bytes all text other status last circuit (bad_dump r _ some is) (bad_dump s _ some_s is_s) = (ap dump_line (dump_laws.one_refusal c bytes r s circuit is is_s some some_s), refl)
-one_on_dump c bytes all text other status last circuit (bad_dump r _ some is) (clash d _ read _) = absurd (some (dump_laws.not_both c bytes d r circuit read.1 is))
-one_on_dump c bytes all text other status last circuit (bad_dump r _ some is) (table d _ read _ _) = absurd (some (dump_laws.not_both c bytes d r circuit read.1 is))
-one_on_dump c bytes all text other status last circuit (clash _ _ is _) (dump_too_long long) = absurd (not_longer bytes is.0 long)
-one_on_dump c bytes all text other status last circuit (clash d _ read _) (bad_dump r _ some is) = absurd (some (dump_laws.not_both c bytes d r circuit read.1 is))
-one_on_dump c bytes all text other status last circuit (clash a cell read is) (clash b next again is_too) =
-    (ap (clash_line c) (one_clash c b cell next (subst (λ d. IsClashOf c d cell) (one_recording c bytes a b circuit read again) is) is_too), refl)
-one_on_dump c bytes all text other status last circuit (clash a cell read is) (table b test again passes no_clash) = absurd (no_table c a b cell test (one_recording c bytes a b circuit read again) is passes no_clash)
-one_on_dump c bytes all text other status last circuit (table _ _ is _ _) (dump_too_long long) = absurd (not_longer bytes is.0 long)
-one_on_dump c bytes all text other status last circuit (table d _ read _ _) (bad_dump r _ some is) = absurd (some (dump_laws.not_both c bytes d r circuit read.1 is))
-one_on_dump c bytes all text other status last circuit (table a test read passes no_clash) (clash b cell again is) = absurd (no_table c b a cell test (one_recording c bytes b a circuit again read) is passes no_clash)
-one_on_dump c bytes all text other status last circuit (table a test read passes _) (table b final again passes_final _) =
-    let same : a ≡ b = one_recording c bytes a b circuit read again in
-    let tests : test ≡ final = same_test (KnownFrom c b) test final (subst (λ d. SameLits (passing test) (KnownFrom c d)) same passes) passes_final in
-    (ap (λ (d : Recording). table_text c d.cycles test (traced_count c d) all) same ∙ ap (λ known. table_text c b.cycles known (traced_count c b) all) tests, refl)
+one_on_dump c bytes all text other status last circuit (inl a) (inl b) = one_dump_refusal c bytes text other status last circuit a b
+one_on_dump c bytes all text other status last circuit (inl a) (inr (d, is, on)) = absurd (dump_or_refused c bytes d text status circuit a is)
+one_on_dump c bytes all text other status last circuit (inr (d, is, on)) (inl b) = absurd (dump_or_refused c bytes d other last circuit b is)
+one_on_dump c bytes all text other status last circuit (inr (a, is, on)) (inr (b, again, on_again)) =
+    one_on_recording c b all text other status last (subst (λ d. OnRecording c d all text status) (one_recording c bytes a b circuit is again) on) on_again
 
 one_to_dump : (held : Held) (c : Circuit) (dump : List ℕ) (all : Bool) (text other : List ℕ) (status last : Status) → IsCircuit c → DumpAnswer held c dump all text status → DumpAnswer held c dump all other last → (text ≡ other) × (status ≡ last)
 one_to_dump held c dump all text other status last circuit (bytes, there, on) (again, there_again, on_again) =
@@ -239,11 +243,13 @@ answer_to words held request text status asks (usage refused) = absurd (refused 
 answer_to words held request text status asks (bad_number place bad) = absurd (asked_good words request place asks bad)
 answer_to words held request text status asks (asked own _ _ asks_own on) = subst (λ r. RequestAnswer held r text status) (one_request words own request asks_own asks) on
 
+recording_completed : (c : Circuit) (d : Recording) (all : Bool) (text : List ℕ) (status : Status) → OnRecording c d all text status → (status ≡ statuses.Done) ⊎ (status ≡ statuses.Contradiction)
+recording_completed c d all text status (clash _ _) = inr refl
+recording_completed c d all text status (table _ _ _) = inl refl
+
 dump_completed : (c : Circuit) (bytes : List ℕ) (d : Recording) (all : Bool) (text : List ℕ) (status : Status) → IsCircuit c → IsDumpText c bytes d → OnDump c bytes all text status → (status ≡ statuses.Done) ⊎ (status ≡ statuses.Contradiction)
-dump_completed c bytes d all text status circuit is (dump_too_long long) = absurd (not_longer bytes is.0 long)
-dump_completed c bytes d all text status circuit is (bad_dump r _ some bad) = absurd (some (dump_laws.not_both c bytes d r circuit is.1 bad))
-dump_completed c bytes d all text status circuit is (clash _ _ _ _) = inr refl
-dump_completed c bytes d all text status circuit is (table _ _ _ _ _) = inl refl
+dump_completed c bytes d all text status circuit is (inl refused) = absurd (dump_or_refused c bytes d text status circuit refused is)
+dump_completed c bytes d all text status circuit is (inr (own, _, on)) = recording_completed c own all text status on
 
 -- what is accepted is completed
 completed : (held : Held) (request : Request) (text : List ℕ) (status : Status) → IsAccepted held request → RequestAnswer held request text status → IsCompleted request status

@@ -6,6 +6,7 @@ use Rattle.sr_model.specs.Dump.{dump_has}
 use Rattle.sr_model.proofs.ClosureLaws.{no_execution_has_both}
 use Rattle.sr_outside.specs.Told.{Held}
 use Rattle.netlist.specs.Circuit.{Circuit, unrolled_over}
+use Rattle.dump_reader.specs.Recording.{Recording}
 use Rattle.report.specs.Table.{known_rows}
 use Rattle.report.proofs.CommentLine.{table_is_dump}
 use Rattle.report.proofs.KnownRows.{table_again, table_is_sound}
@@ -15,11 +16,11 @@ use Rattle.restore_program.specs.declared.reply.Reply.{Reply}
 use Rattle.restore_program.specs.Reply.{text_of, status_of}
 use Rattle.restore_program.specs.Requests.{Asks, Request, restoration, simulation, printing, loading}
 use Rattle.restore_program.specs.Words.{Restores, IsRestore}
-use Rattle.restore_program.specs.Answer.{Answer, usage, bad_number, asked, netlist_too_long, bad_line, no_netlist, OnNetlist, OnRefused, IsNetlistOf, DumpAnswer, OnDump, dump_too_long, bad_dump, clash, table, traced_count}
+use Rattle.restore_program.specs.Answer.{Answer, usage, bad_number, asked, netlist_too_long, bad_line, no_netlist, OnNetlist, OnRefused, IsNetlistOf, DumpAnswer, IsDumpText, OnRecording, RefusedDump, dump_too_long, bad_dump, clash, table, traced_count}
 use Rattle.restore_program.specs.Faults.{TellsEnough}
 use Rattle.restore_program.specs.ReplyAnswers.{ReplyAnswer}
 use Rattle.restore_program.specs.Status.{IsPlain}
-use Rattle.restore_program.specs.Sound.{IsAccepted, IsCompleted, IsDumpAgain, IsSoundTable, NoneMatches}
+use Rattle.restore_program.specs.Sound.{Accepts, IsAccepted, IsCompleted, IsDumpAgain, IsSoundTable, NoneMatches}
 use Rattle.restore_program.specs.Tracing.{OnTrace, unknown_name, name_twice, many_cells, traced}
 use Rattle.restore_program.proofs.OneAnswer.{accepted_is_completed, answer_to, clash_known, is_circuit}
 
@@ -32,53 +33,58 @@ refused_status held netlist text status (bytes, there, no_netlist stated r short
 -- ---- a table
 
 module _ (words : List (List ℕ)) (held : Held) (netlist dump bytes : List ℕ) (all : Bool) (asks : Restores words netlist dump all) (c : Circuit) (is : IsNetlistOf held netlist c) (there : held dump ≡ Some bytes) where
-  sound_dump : (text : List ℕ) (status : Status) → OnDump c bytes all text status → status ≡ statuses.Done → IsSoundTable words text held
-  sound_dump text status (dump_too_long long) e = absurd cc
-  sound_dump text status (bad_dump r short some bad) e = absurd cc
-  sound_dump text status (clash d cell read clashes) e = absurd cc
-  sound_dump text status (table d known read same no_clash) e = record {
-    c = c;
-    d = d;
-    all = all;
-    accepts = record { netlist = netlist; dump = dump; asked = asks; netlist_held = is; dump_bytes = bytes; dump_held = there; dump_text = read };
-    known = known;
-    is_known = same;
-    is_table = refl;
-    matched = λ v runs matches. table_is_sound c d known all same v runs matches;
-  }
+  accepts : (d : Recording) → IsDumpText c bytes d → Accepts words held c d all
+  accepts d read = record { netlist = netlist; dump = dump; asked = asks; netlist_held = is; dump_bytes = bytes; dump_held = there; dump_text = read }
 
-  again_dump : (text : List ℕ) (status : Status) → OnDump c bytes all text status → status ≡ statuses.Done → IsDumpAgain words text held
-  again_dump text status (dump_too_long long) e = absurd cc
-  again_dump text status (bad_dump r short some bad) e = absurd cc
-  again_dump text status (clash d cell read clashes) e = absurd cc
-  again_dump text status (table d known read same no_clash) e = record {
-    c = c;
-    d = d;
-    all = all;
-    accepts = record { netlist = netlist; dump = dump; asked = asks; netlist_held = is; dump_bytes = bytes; dump_held = there; dump_text = read };
-    own = known_rows c d.cycles known all;
-    spells = table_is_dump c d.cycles known (traced_count c d) all (is_circuit is.0 c is.2) read.1.front.front.is_cycles_line.0 read.1.front.few;
-    same_rows = λ again known_again. table_again c d known again all same no_clash known_again;
-  }
+  module _ (d : Recording) (read : IsDumpText c bytes d) where
+    sound_recording : (text : List ℕ) (status : Status) → OnRecording c d all text status → status ≡ statuses.Done → IsSoundTable words text held
+    sound_recording text status (clash cell clashes) e = absurd cc
+    sound_recording text status (table known same no_clash) e = record {
+      c = c;
+      d = d;
+      all = all;
+      accepts = accepts d read;
+      known = known;
+      is_known = same;
+      is_table = refl;
+      matched = λ v runs matches. table_is_sound c d known all same v runs matches;
+    }
 
-  clash_dump : (text : List ℕ) (status : Status) → OnDump c bytes all text status → status ≡ statuses.Contradiction → NoneMatches words held
-  clash_dump text status (dump_too_long long) e = absurd cc
-  clash_dump text status (bad_dump r short some bad) e = absurd cc
-  clash_dump text status (table d known read same no_clash) e = absurd cc
-  clash_dump text status (clash d cell read clashes) e = (
-    c,
-    d,
-    all,
-    record { netlist = netlist; dump = dump; asked = asks; netlist_held = is; dump_bytes = bytes; dump_held = there; dump_text = read },
-    λ v runs matches. no_execution_has_both (unrolled_over c d.cycles) (passing (dump_has d.rows)) cell (clash_known c d cell clashes) v runs matches,
-  )
+    again_recording : (text : List ℕ) (status : Status) → OnRecording c d all text status → status ≡ statuses.Done → IsDumpAgain words text held
+    again_recording text status (clash cell clashes) e = absurd cc
+    again_recording text status (table known same no_clash) e = record {
+      c = c;
+      d = d;
+      all = all;
+      accepts = accepts d read;
+      own = known_rows c d.cycles known all;
+      spells = table_is_dump c d.cycles known (traced_count c d) all (is_circuit is.0 c is.2) read.1.front.front.is_cycles_line.0 read.1.front.few;
+      same_rows = λ again known_again. table_again c d known again all same no_clash known_again;
+    }
+
+    clash_recording : (text : List ℕ) (status : Status) → OnRecording c d all text status → status ≡ statuses.Contradiction → NoneMatches words held
+    clash_recording text status (table known same no_clash) e = absurd cc
+    clash_recording text status (clash cell clashes) e = (
+      c,
+      d,
+      all,
+      accepts d read,
+      λ v runs matches. no_execution_has_both (unrolled_over c d.cycles) (passing (dump_has d.rows)) cell (clash_known c d cell clashes) v runs matches,
+    )
+
+-- a refused dump has its own status
+dump_status : (c : Circuit) (bytes text : List ℕ) (status : Status) → RefusedDump c bytes text status → status ≡ statuses.Dump
+dump_status c bytes text status (dump_too_long long) = refl
+dump_status c bytes text status (bad_dump r short some bad) = refl
 
 sound_answer : (words : List (List ℕ)) (held : Held) (text : List ℕ) (status : Status) → IsRestore words → Answer words held text status → status ≡ statuses.Done → IsSoundTable words text held × IsDumpAgain words text held
 sound_answer words held text status (netlist, dump, all, asks) answer e = on (answer_to words held (restoration netlist dump all) text status asks answer)
   where
     on : OnNetlist held netlist (λ c. DumpAnswer held c dump all) text status → IsSoundTable words text held × IsDumpAgain words text held
     on (inl refused) = let wrong = sym (refused_status held netlist text status refused) ∙ e in absurd cc
-    on (inr (c, is, (bytes, there, on_dump))) = (sound_dump words held netlist dump bytes all asks c is there text status on_dump e, again_dump words held netlist dump bytes all asks c is there text status on_dump e)
+    on (inr (c, is, (bytes, there, inl refused))) = let wrong = sym (dump_status c bytes text status refused) ∙ e in absurd cc
+    on (inr (c, is, (bytes, there, inr (d, read, on_d)))) =
+        (sound_recording words held netlist dump bytes all asks c is there d read text status on_d e, again_recording words held netlist dump bytes all asks c is there d read text status on_d e)
 
 -- ---- a contradiction
 
@@ -95,7 +101,8 @@ clash_answer : (words : List (List ℕ)) (held : Held) (text : List ℕ) (status
 clash_answer words held text status (usage other) e = absurd cc
 clash_answer words held text status (bad_number place bad) e = absurd cc
 clash_answer words held text status (asked (restoration netlist dump all) t k asks (inl refused)) e = absurd (no_refused_clash held netlist t k refused e)
-clash_answer words held text status (asked (restoration netlist dump all) t k asks (inr (c, is, (bytes, there, on)))) e = clash_dump words held netlist dump bytes all asks c is there t k on e
+clash_answer words held text status (asked (restoration netlist dump all) t k asks (inr (c, is, (bytes, there, inl refused)))) e = let wrong = sym (dump_status c bytes t k refused) ∙ e in absurd cc
+clash_answer words held text status (asked (restoration netlist dump all) t k asks (inr (c, is, (bytes, there, inr (d, read, on))))) e = clash_recording words held netlist dump bytes all asks c is there d read t k on e
 clash_answer words held text status (asked (simulation netlist cycles seed list) t k asks (inl refused)) e = absurd (no_refused_clash held netlist t k refused e)
 clash_answer words held text status (asked (simulation netlist cycles seed list) t k asks (inr (c, is, on))) e = absurd (no_clash_trace c cycles seed list t k on e)
 clash_answer words held text status (asked (printing netlist) t k asks (inl refused)) e = absurd (no_refused_clash held netlist t k refused e)

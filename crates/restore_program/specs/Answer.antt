@@ -20,6 +20,7 @@ use Rattle.dump_reader.specs.declared.refusal.DumpRefusal.TheVariants as dumps
 use Rattle.dump_reader.specs.Recording.{Recording}
 use Rattle.dump_reader.specs.Grammar as dump_grammar
 use Rattle.dump_reader.specs.Refusal as dump_refusal
+use Rattle.report.specs.declared.refusal.Part.{Part}
 use Rattle.report.specs.declared.refusal.Part.TheVariants as parts
 use Rattle.report.specs.declared.refusal.WordRefusal.TheVariants as word_refusals
 use Rattle.report.specs.Clash.{clash_line}
@@ -34,15 +35,16 @@ use Rattle.restore_program.specs.Requests.{Request, Asks, restoration, simulatio
 use Rattle.restore_program.specs.Words.{IsBadNumber, IsCommand}
 use Rattle.restore_program.specs.Tracing.{OnTrace}
 
--- the most bytes of a netlist or a dump
-abbrev pub most_bytes : ℕ
-most_bytes = 16777216
+-- the most bytes of an input
+abbrev pub most_bytes : Part → ℕ
+most_bytes parts.Netlist = 16777216
+most_bytes parts.Dump = 16777216
 
 -- ---- a netlist's text
 
 -- the text's statements stand for this netlist
 pub record IsNetlistText (bytes : List ℕ) (c : Circuit) : Type 0 where
-  pub few : length bytes ≤ most_bytes
+  pub few : length bytes ≤ most_bytes parts.Netlist
   pub stated : List (ℕ × Declaration)
   pub spells : grammar.Spells bytes stated
   pub netlist : IsNetlist (checks.without_lines stated)
@@ -50,9 +52,9 @@ pub record IsNetlistText (bytes : List ℕ) (c : Circuit) : Type 0 where
 
 -- a netlist's text is too long or is refused: first by a line that is not in the grammar, and then by a rule that the statements break
 pub data RefusedNetlist (bytes : List ℕ) : List ℕ → Status → Type 0 where
-  netlist_too_long : most_bytes < length bytes → RefusedNetlist bytes (too_long_line parts.Netlist) statuses.Netlist
-  bad_line : (r : BenchRefusal) → length bytes ≤ most_bytes → r ≢ bench.NoMemory → bench_refusal.IsRefusal bytes r → RefusedNetlist bytes (bench_line r) statuses.Netlist
-  no_netlist : (stated : List (ℕ × Declaration)) (r : NetRefusal) → length bytes ≤ most_bytes → r ≢ net.NoMemory → grammar.Spells bytes stated → checks.IsRefusal stated r
+  netlist_too_long : most_bytes parts.Netlist < length bytes → RefusedNetlist bytes (too_long_line parts.Netlist) statuses.Netlist
+  bad_line : (r : BenchRefusal) → length bytes ≤ most_bytes parts.Netlist → r ≢ bench.NoMemory → bench_refusal.IsRefusal bytes r → RefusedNetlist bytes (bench_line r) statuses.Netlist
+  no_netlist : (stated : List (ℕ × Declaration)) (r : NetRefusal) → length bytes ≤ most_bytes parts.Netlist → r ≢ net.NoMemory → grammar.Spells bytes stated → checks.IsRefusal stated r
       → RefusedNetlist bytes (net_line r) statuses.Netlist
 
 -- ---- a dump's text
@@ -65,7 +67,7 @@ IsDumpRefusal c bytes r = dump_refusal.IsRefusal c.names (length c.drivers) byte
 
 -- the text is a dump of the netlist with this recording
 abbrev pub IsDumpText : Circuit → List ℕ → Recording → Type 0
-IsDumpText c bytes d = (length bytes ≤ most_bytes) × SpellsDump c bytes d
+IsDumpText c bytes d = (length bytes ≤ most_bytes parts.Dump) × SpellsDump c bytes d
 
 -- what is known from a recording
 abbrev pub KnownFrom : Circuit → Recording → Lit → Type 0
@@ -79,13 +81,19 @@ traced_count c d = known_count c d.cycles (dump_has d.rows)
 abbrev pub IsClashOf : Circuit → Recording → Cell → Type 0
 IsClashOf c d cell = (level : ℕ) × IsClash (unrolled_over c d.cycles) (passing (dump_has d.rows)) cell level
 
--- on a dump of a netlist, with the rows of all signals or of the flip-flops alone
-pub data OnDump (c : Circuit) (bytes : List ℕ) (all : Bool) : List ℕ → Status → Type 0 where
-  dump_too_long : most_bytes < length bytes → OnDump c bytes all (too_long_line parts.Dump) statuses.Dump
-  bad_dump : (r : DumpRefusal) → length bytes ≤ most_bytes → r ≢ dumps.NoMemory → IsDumpRefusal c bytes r → OnDump c bytes all (dump_line r) statuses.Dump
-  clash : (d : Recording) (cell : Cell) → IsDumpText c bytes d → IsClashOf c d cell → OnDump c bytes all (clash_line c cell) statuses.Contradiction
-  table : (d : Recording) (known : Lit → Bool) → IsDumpText c bytes d → SameLits (passing known) (KnownFrom c d)
-      → ((cell : Cell) → HasBoth (passing known) cell → ⊥) → OnDump c bytes all (table_text c d.cycles known (traced_count c d) all) statuses.Done
+-- a dump's text is too long or is refused
+pub data RefusedDump (c : Circuit) (bytes : List ℕ) : List ℕ → Status → Type 0 where
+  dump_too_long : most_bytes parts.Dump < length bytes → RefusedDump c bytes (too_long_line parts.Dump) statuses.Dump
+  bad_dump : (r : DumpRefusal) → length bytes ≤ most_bytes parts.Dump → r ≢ dumps.NoMemory → IsDumpRefusal c bytes r → RefusedDump c bytes (dump_line r) statuses.Dump
+
+-- on a recording, with the rows of all signals or of the flip-flops alone
+pub data OnRecording (c : Circuit) (d : Recording) (all : Bool) : List ℕ → Status → Type 0 where
+  clash : (cell : Cell) → IsClashOf c d cell → OnRecording c d all (clash_line c cell) statuses.Contradiction
+  table : (known : Lit → Bool) → SameLits (passing known) (KnownFrom c d) → ((cell : Cell) → HasBoth (passing known) cell → ⊥) → OnRecording c d all (table_text c d.cycles known (traced_count c d) all) statuses.Done
+
+-- on a dump's text
+abbrev pub OnDump : Circuit → List ℕ → Bool → List ℕ → Status → Type 0
+OnDump c bytes all text status = RefusedDump c bytes text status ⊎ ((d : Recording) × IsDumpText c bytes d × OnRecording c d all text status)
 
 -- ---- what the words ask for
 

@@ -15,8 +15,14 @@ use report::{Part, Refusal};
 use sr_outside::{Inputs, ReadRefusal, read_whole};
 use std::alloc::Global;
 
-/// The most bytes of a netlist or a dump.
-pub(crate) const MOST_BYTES: u64 = 16_777_216;
+/// The most bytes of an input.
+pub(crate) fn most_bytes(part: Part) -> u64
+    ensures { result ≡ most_bytes part }
+{
+    match part {
+        Part::Netlist | Part::Dump => 16_777_216,
+    }
+}
 
 /// The netlist of this name, or what is written in its place.
 pub(crate) fn read_netlist<I: Inputs>(
@@ -30,7 +36,7 @@ pub(crate) fn read_netlist<I: Inputs>(
     ensures not_of_words { IfErr result (λ reply. ¬ (IsOfWords reply)) }
     ensures reads { (behind : List File) → Reads I.held I.shaky I.faults inputs.old inputs.new (IsComeTo (I.held inputs.old) ((parts.Netlist, name.now) ∷ behind)) (fault_in result) }
 {
-    match read_whole(alloc, inputs, name, MOST_BYTES) {
+    match read_whole(alloc, inputs, name, most_bytes(Part::Netlist)) {
         Ok(text) => parse_netlist(alloc, text.as_slice()),
         Err(refusal) => Err(Reply::Refused {
             refusal: unread(Part::Netlist, refusal),
@@ -51,7 +57,7 @@ pub(crate) fn unread(part: Part, refusal: ReadRefusal) -> Refusal
 
 /// The netlist of a text, or what is written in its place.
 fn parse_netlist(alloc: Global, bytes: &[u8]) -> Result<Netlist, Reply>
-    requires short { length bytes.now ≤ most_bytes }
+    requires short { length bytes.now ≤ most_bytes parts.Netlist }
     ensures netlist { IfOk result (IsNetlistText bytes.now) }
     ensures refused { IfErr result (λ reply. (words : List (List ℕ)) → Replies words (RefusedNetlist bytes.now) reply) }
     ensures ready { IfErr result (λ reply. (words : List (List ℕ)) → IsReady words reply) }

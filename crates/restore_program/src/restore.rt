@@ -8,7 +8,7 @@ ghost use Rattle.report.specs.declared.refusal.Part.TheVariants as parts;
 ghost use Rattle.dump_reader.specs.Grammar.{block_count};
 ghost use Rattle.unroll.specs.Problem.{signals_in, unrolled};
 ghost use Rattle.known_planes.specs.Planes.{IsOf, has, lits};
-ghost use Rattle.restore_program.specs.Answer.{DumpAnswer, IsDumpText, OnDump, RequestAnswer, most_bytes};
+ghost use Rattle.restore_program.specs.Answer.{DumpAnswer, OnDump, OnRecording, RequestAnswer, most_bytes};
 ghost use Rattle.restore_program.specs.Faults.{IsComeTo};
 ghost use Rattle.restore_program.specs.Reads.{Reads};
 ghost use Rattle.restore_program.specs.ReplyAnswers.{IsOfWords, Replies, fault_of};
@@ -16,7 +16,7 @@ ghost use Rattle.restore_program.specs.Outcome.{IsKnown, IsOutcome, IsTraced};
 ghost use Rattle.restore_program.specs.Reply.{IsReady};
 ghost use Rattle.restore_program.specs.Requests.{files_of, restoration};
 
-use crate::netlists::{MOST_BYTES, read_netlist, unread};
+use crate::netlists::{most_bytes, read_netlist, unread};
 use crate::reply::{Reply, Table};
 use dump_reader::{Dump, read_dump};
 use known_planes::{Closer, Planes, seed};
@@ -65,7 +65,7 @@ fn dump_reply<R: Threads + Sync, I: Inputs, C: Closer>(
     ensures not_of_words { ¬ (IsOfWords result) }
     ensures reads { Reads I.held I.shaky I.faults inputs.old inputs.new (λ file. file ≡ (parts.Dump, dump.now)) (fault_of result) }
 {
-    match read_whole(alloc, inputs, dump, MOST_BYTES) {
+    match read_whole(alloc, inputs, dump, most_bytes(Part::Dump)) {
         Ok(text) => recorded_reply(rt, alloc, closer, n, text.as_slice(), all),
         Err(refusal) => Reply::Refused {
             refusal: unread(Part::Dump, refusal),
@@ -82,7 +82,7 @@ fn recorded_reply<R: Threads + Sync, C: Closer>(
     bytes: &[u8],
     all: bool,
 ) -> Reply
-    requires short { length bytes.now ≤ most_bytes }
+    requires short { length bytes.now ≤ most_bytes parts.Dump }
     ensures answer { (words : List (List ℕ)) → Replies words (OnDump n bytes.now all) result }
     ensures ready { (words : List (List ℕ)) → IsReady words result }
     ensures not_of_words { ¬ (IsOfWords result) }
@@ -172,7 +172,7 @@ fn clash_from(alloc: Global, p: &Problem, base: &Planes) -> Result<Outcome, NoMe
 fn outcome_reply(netlist: Netlist, dump: &Dump, all: bool, outcome: Outcome) -> Reply
     requires few { block_count (length netlist.drivers) dump.now.cycles ≤ 4194304 }
     requires outcome { IsOutcome (record { circuit = netlist; cycles = dump.now.cycles }) dump.now.rows outcome }
-    ensures answer { (words : List (List ℕ)) (bytes : List ℕ) → IsDumpText netlist bytes dump.now → Replies words (OnDump netlist bytes all) result }
+    ensures answer { (words : List (List ℕ)) → Replies words (OnRecording netlist dump.now all) result }
     ensures ready { (words : List (List ℕ)) → IsReady words result }
     ensures not_of_words { ¬ (IsOfWords result) }
     ensures no_fault { fault_of result ≡ None }
@@ -188,7 +188,7 @@ fn known_reply(netlist: Netlist, dump: &Dump, all: bool, planes: Planes, traced:
     requires few { block_count (length netlist.drivers) dump.now.cycles ≤ 4194304 }
     requires known { IsKnown (record { circuit = netlist; cycles = dump.now.cycles }) dump.now.rows planes }
     requires traced { IsTraced (record { circuit = netlist; cycles = dump.now.cycles }) dump.now.rows traced }
-    ensures answer { (words : List (List ℕ)) (bytes : List ℕ) → IsDumpText netlist bytes dump.now → Replies words (OnDump netlist bytes all) result }
+    ensures answer { (words : List (List ℕ)) → Replies words (OnRecording netlist dump.now all) result }
     ensures ready { (words : List (List ℕ)) → IsReady words result }
     ensures not_of_words { ¬ (IsOfWords result) }
     ensures no_fault { fault_of result ≡ None }

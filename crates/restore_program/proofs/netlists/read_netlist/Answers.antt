@@ -1,5 +1,7 @@
-use Rattle.std.proofs.Common.{◌∷◌, Ok, Err, sym, subst}
-use Rattle.std.specs.Prelude.{IfSome}
+use Rattle.std.proofs.Common.{◌∷◌, ◌<◌, ℕ, length, Ok, Err, sym, subst}
+use Rattle.std.specs.Prelude.{IfSome, IsErrOf}
+use Rattle.sr_model.specs.Room.{WithRoom}
+use Rattle.sr_outside.specs.declared.whole.ReadRefusal.TheVariants as reads
 use Rattle.report.specs.declared.refusal.Part.TheVariants as parts
 use Rattle.restore_program.specs.declared.reply.Reply.TheVariants as replies
 use Rattle.restore_program.specs.Answer.{OnRefused}
@@ -27,7 +29,9 @@ returns-in-Err-clause-reads g c behind =
 pub returns-in-Err-clause-refused : goal.returns-in-Err-clause-refused
 returns-in-Err-clause-refused g c words =
     subst (λ refusal. IfSome (g.I.Inputs.held c.args.inputs.now) (λ held. Replies words (OnRefused held c.args.name.now) (replies.Refused refusal))) (sym c.unread.ensures)
-    (unread_netlist words (g.I.Inputs.held c.args.inputs.now) c.args.name.now c.in-Err.refusal c.in-Err.ensures.long_name c.in-Err.ensures.not_held)
+    (unread_netlist words (g.I.Inputs.held c.args.inputs.now) c.args.name.now c.in-Err.refusal
+    (subst (λ most. IsErrOf {T = WithRoom ℕ} (Err c.in-Err.refusal) reads.TooLong → IfSome (g.I.Inputs.held c.args.inputs.now) (λ held. IfSome (held c.args.name.now) (λ bytes. most < length bytes))) c.most_bytes.ensures c.in-Err.ensures.long_name)
+    c.in-Err.ensures.not_held)
 
 pub returns-in-Err-clause-ready : goal.returns-in-Err-clause-ready
 returns-in-Err-clause-ready g c words = subst (λ refusal. IsReady words (replies.Refused refusal)) (sym c.unread.ensures) (unread_ready words parts.Netlist c.in-Err.refusal)

@@ -1,5 +1,7 @@
-use Rattle.std.proofs.Common.{◌≡◌, Ok, Err, refl, sym, subst}
-use Rattle.std.specs.Prelude.{IfSome}
+use Rattle.std.proofs.Common.{◌≡◌, ◌<◌, ℕ, length, Ok, Err, refl, sym, subst}
+use Rattle.std.specs.Prelude.{IfSome, IsErrOf}
+use Rattle.sr_model.specs.Room.{WithRoom}
+use Rattle.sr_outside.specs.declared.whole.ReadRefusal.TheVariants as reads
 use Rattle.report.specs.declared.refusal.Part.TheVariants as parts
 use Rattle.restore_program.specs.declared.reply.Reply.TheVariants as replies
 use Rattle.restore_program.specs.Answer.{DumpAnswer, OnDump}
@@ -30,7 +32,9 @@ returns-in-Err-clause-reads g c =
 pub returns-in-Err-clause-answer : goal.returns-in-Err-clause-answer
 returns-in-Err-clause-answer g c words =
     subst (λ refusal. IfSome (g.I.Inputs.held c.args.inputs.now) (λ held. Replies words (DumpAnswer held c.args.n c.args.dump.now c.args.all) (replies.Refused refusal))) (sym c.unread.ensures)
-    (unread_dump words (g.I.Inputs.held c.args.inputs.now) c.args.n c.args.dump.now c.args.all c.in-Err.refusal c.in-Err.ensures.long_name c.in-Err.ensures.not_held)
+    (unread_dump words (g.I.Inputs.held c.args.inputs.now) c.args.n c.args.dump.now c.args.all c.in-Err.refusal
+    (subst (λ most. IsErrOf {T = WithRoom ℕ} (Err c.in-Err.refusal) reads.TooLong → IfSome (g.I.Inputs.held c.args.inputs.now) (λ held. IfSome (held c.args.dump.now) (λ bytes. most < length bytes))) c.most_bytes.ensures c.in-Err.ensures.long_name)
+    c.in-Err.ensures.not_held)
 
 pub returns-in-Err-clause-ready : goal.returns-in-Err-clause-ready
 returns-in-Err-clause-ready g c words = subst (λ refusal. IsReady words (replies.Refused refusal)) (sym c.unread.ensures) (unread_ready words parts.Dump c.in-Err.refusal)
