@@ -38,7 +38,7 @@ use Rattle.restore_program.specs.Answer.{most_bytes, IsNetlistText, RefusedNetli
 use Rattle.restore_program.specs.AnswerLaws.{AnswerExists, IsServed}
 use Rattle.restore_program.specs.Loading.{IsLoadText, load_circuit, load_cycles, load_traced}
 use Rattle.restore_program.specs.Requests.{Request, Asks, restoration, simulation, printing, loading}
-use Rattle.restore_program.specs.Tracing.{IsDrawnRun, OnTrace, names_in, unknown_name, name_twice, many_cells, traced}
+use Rattle.restore_program.specs.Tracing.{IsDrawnRun, OnTrace, names_in, unknown_name, name_twice, many_cells, refused_cells, refused_names, traced}
 use Rattle.restore_program.proofs.AskedLoad.{load_size}
 use Rattle.restore_program.proofs.Files.{behind_netlist, first_file}
 use Rattle.restore_program.proofs.NamesDecided.{names_decided}
@@ -89,10 +89,10 @@ dump_decided c bytes all = elim (cases_lt (most_bytes parts.Dump) (length bytes)
 
 trace_decided : (c : Circuit) → IsCircuit c → (cycles seed : ℕ) (list : List ℕ) → Some_text (OnTrace c cycles seed list)
 trace_decided c is cycles seed list = elim (names_decided c is (names_in list)) [
-  | inr (inl (name, unknown)) ↦ (unknown_trace_line name, statuses.Words, unknown_name name unknown)
-  | inr (inr (name, twice)) ↦ (trace_twice_line name, statuses.Words, name_twice name twice)
+  | inr (inl (name, unknown)) ↦ (unknown_trace_line name, statuses.Words, refused_names _ _ (unknown_name name unknown))
+  | inr (inr (name, twice)) ↦ (trace_twice_line name, statuses.Words, refused_names _ _ (name_twice name twice))
   | inl (sigs, named) ↦ elim (cases_lt 4194304 (block_count (length c.drivers) cycles)) [
-    | inl many ↦ (many_cells_line (block_count (length c.drivers) cycles), statuses.Dump, many_cells sigs named many)
+    | inl many ↦ (many_cells_line (block_count (length c.drivers) cycles), statuses.Dump, refused_cells sigs _ _ named (many_cells many))
     | inr few ↦
         let run = simulation_exists c is cycles (drawn_bit seed (length c.inputs)) in
         let text : List ℕ = printed c.names (record { cycles = cycles; rows = traced_rows run.0 cycles sigs }) in

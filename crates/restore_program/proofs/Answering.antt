@@ -45,7 +45,7 @@ use Rattle.restore_program.specs.Outcome.{IsKnown, IsTraced}
 use Rattle.restore_program.specs.Reply.{IsReady, text_of, status_of, refusal_status}
 use Rattle.restore_program.specs.Requests.{Request, Asks}
 use Rattle.restore_program.specs.TraceRefusals.{HasListAt, IsItem, IsTraceRefusal, list_refusal}
-use Rattle.restore_program.specs.Tracing.{OnTrace, name_twice, names_in, unknown_name}
+use Rattle.restore_program.specs.Tracing.{OnTrace, name_twice, names_in, refused_names, unknown_name}
 use Rattle.restore_program.specs.declared.trace.TraceRefusal.{TraceRefusal}
 use Rattle.restore_program.specs.declared.trace.TraceRefusal.TheVariants as traces
 use Rattle.restore_program.specs.WordMeaning.{Means}
@@ -136,9 +136,9 @@ item_there words place list c name item there is = record {
 pub trace_refused : (words : List (List ℕ)) (place : ℕ) (c : Circuit) (cycles seed : ℕ) (list : List ℕ) (r : TraceRefusal) → HasListAt words place list → IsTraceRefusal c (names_in list) r
     → Replies words (OnTrace c cycles seed list) (replies.Refused (list_refusal r place))
 trace_refused words place c cycles seed list (traces.Unknown item) there (name, is, unknown) plain =
-    subst (λ n. OnTrace c cycles seed list (unknown_trace_line n) statuses.Words) (sym (item_name words place list c name item there is)) (unknown_name name (is.before, is.next, unknown))
+    subst (λ n. OnTrace c cycles seed list (unknown_trace_line n) statuses.Words) (sym (item_name words place list c name item there is)) (refused_names _ _ (unknown_name name (is.before, is.next, unknown)))
 trace_refused words place c cycles seed list (traces.Twice item) there (name, is, twice) plain =
-    subst (λ n. OnTrace c cycles seed list (trace_twice_line n) statuses.Words) (sym (item_name words place list c name item there is)) (name_twice name (is.before, is.next, twice))
+    subst (λ n. OnTrace c cycles seed list (trace_twice_line n) statuses.Words) (sym (item_name words place list c name item there is)) (refused_names _ _ (name_twice name (is.before, is.next, twice)))
 trace_refused words place c cycles seed list traces.NoMemory there is plain = absurd plain
 
 pub trace_ready : (words : List (List ℕ)) (place : ℕ) (c : Circuit) (list : List ℕ) (r : TraceRefusal) → HasListAt words place list → IsTraceRefusal c (names_in list) r → IsReady words (replies.Refused (list_refusal r place))

@@ -13,7 +13,7 @@ use Rattle.dump_reader.specs.Print.{printed}
 use Rattle.restore_program.specs.declared.status.Status.{Status}
 use Rattle.restore_program.specs.declared.status.Status.TheVariants as statuses
 use Rattle.report.specs.Refusals.{unknown_trace_line, trace_twice_line}
-use Rattle.restore_program.specs.Tracing.{AreNamed, IsTraceText, IsTwiceFirst, IsUnknownFirst, OnTrace, StandsNext, many_cells, name_twice, names_in, traced, unknown_name}
+use Rattle.restore_program.specs.Tracing.{AreNamed, IsTraceText, IsTwiceFirst, IsUnknownFirst, OnTrace, StandsNext, RefusedCells, RefusedNames, many_cells, refused_cells, refused_names, name_twice, names_in, traced, unknown_name}
 use Rattle.restore_program.proofs.OneRun.{one_trace}
 use Rattle.restore_program.proofs.TraceSignals.{signals_within}
 
@@ -131,10 +131,6 @@ module _ (c : Circuit) (names : List (List ℕ)) where
 
 -- ---- one trace
 
--- no count of cells is both too many and not
-not-many : (n : ℕ) → 4194304 < n → n ≤ 4194304 → ⊥
-not-many n many few = omega (arith, many, few)
-
 one-text : (c : Circuit) (seed cycles : ℕ) (sigs : List Sig) (text other : List ℕ) → IsCircuit c → All (λ (s : Sig). s.0 < length c.drivers) sigs → IsTraceText c seed cycles sigs text → IsTraceText c seed cycles sigs other
     → text ≡ other
 one-text c seed cycles sigs text other is within (v, first, e) (w, second, e_too) =
@@ -146,29 +142,38 @@ same-text c seed cycles names sigs others text other is named named_too first se
     let same : sigs ≡ others = same-signals c is names sigs others named.each named_too.each in
     one-text c seed cycles others text other is (signals_within c is names others named_too) (subst (λ xs. IsTraceText c seed cycles xs text) same first) second
 
+one_refused_name : (c : Circuit) (names : List (List ℕ)) (text other : List ℕ) (status last : Status) → IsCircuit c → RefusedNames c names text status → RefusedNames c names other last → (text ≡ other) × (status ≡ last)
+one_refused_name c names text other status last is (unknown_name x unknown) (unknown_name y unknown_too) = (ap unknown_trace_line (one-unknown c names x y unknown unknown_too), refl)
+one_refused_name c names text other status last is (unknown_name x unknown) (name_twice y twice) = absurd (unknown-or-twice c names x y unknown twice)
+one_refused_name c names text other status last is (name_twice x twice) (unknown_name y unknown) = absurd (unknown-or-twice c names y x unknown twice)
+one_refused_name c names text other status last is (name_twice x twice) (name_twice y twice_too) = (ap trace_twice_line (one-twice c names x y twice twice_too), refl)
+
+refused-or-named : (c : Circuit) (names : List (List ℕ)) (text : List ℕ) (status : Status) (sigs : List Sig) → AreNamed c names sigs → ¬ RefusedNames c names text status
+refused-or-named c names text status sigs named (unknown_name x unknown) = unknown-or-named c names x sigs named unknown
+refused-or-named c names text status sigs named (name_twice x twice) = twice-or-named c names x sigs named twice
+
+one_refused_count : (signals cycles : ℕ) (text other : List ℕ) (status last : Status) → RefusedCells signals cycles text status → RefusedCells signals cycles other last → (text ≡ other) × (status ≡ last)
+one_refused_count signals cycles text other status last (many_cells many) (many_cells many_too) = (refl, refl)
+
+-- no count of cells is both too many and not
+refused-or-few : (signals cycles : ℕ) (text : List ℕ) (status : Status) → block_count signals cycles ≤ 4194304 → ¬ RefusedCells signals cycles text status
+refused-or-few signals cycles text status few (many_cells many) = omega (arith, many, few)
+
 pub one_on_trace : (c : Circuit) (cycles seed : ℕ) (list text other : List ℕ) (status last : Status) → IsCircuit c → OnTrace c cycles seed list text status → OnTrace c cycles seed list other last → (text ≡ other) × (status ≡ last)
-one_on_trace c cycles seed list text other status last is (unknown_name x unknown) (unknown_name y unknown_too) = (ap unknown_trace_line (one-unknown c (names_in list) x y unknown unknown_too), refl)
-one_on_trace c cycles seed list text other status last is (unknown_name x unknown) (name_twice y twice) = absurd (unknown-or-twice c (names_in list) x y unknown twice)
-one_on_trace c cycles seed list text other status last is (unknown_name x unknown) (many_cells sigs named many) = absurd (unknown-or-named c (names_in list) x sigs named unknown)
-one_on_trace c cycles seed list text other status last is (unknown_name x unknown) (traced sigs _ named few traces) = absurd (unknown-or-named c (names_in list) x sigs named unknown)
-one_on_trace c cycles seed list text other status last is (name_twice x twice) (unknown_name y unknown) = absurd (unknown-or-twice c (names_in list) y x unknown twice)
-one_on_trace c cycles seed list text other status last is (name_twice x twice) (name_twice y twice_too) = (ap trace_twice_line (one-twice c (names_in list) x y twice twice_too), refl)
-one_on_trace c cycles seed list text other status last is (name_twice x twice) (many_cells sigs named many) = absurd (twice-or-named c (names_in list) x sigs named twice)
-one_on_trace c cycles seed list text other status last is (name_twice x twice) (traced sigs _ named few traces) = absurd (twice-or-named c (names_in list) x sigs named twice)
-one_on_trace c cycles seed list text other status last is (many_cells sigs named many) (unknown_name y unknown) = absurd (unknown-or-named c (names_in list) y sigs named unknown)
-one_on_trace c cycles seed list text other status last is (many_cells sigs named many) (name_twice y twice) = absurd (twice-or-named c (names_in list) y sigs named twice)
-one_on_trace c cycles seed list text other status last is (many_cells sigs named many) (many_cells others named_too many_too) = (refl, refl)
-one_on_trace c cycles seed list text other status last is (many_cells sigs named many) (traced others _ named_too few traces) = absurd (not-many (block_count (length c.drivers) cycles) many few)
-one_on_trace c cycles seed list text other status last is (traced sigs _ named few traces) (unknown_name y unknown) = absurd (unknown-or-named c (names_in list) y sigs named unknown)
-one_on_trace c cycles seed list text other status last is (traced sigs _ named few traces) (name_twice y twice) = absurd (twice-or-named c (names_in list) y sigs named twice)
-one_on_trace c cycles seed list text other status last is (traced sigs _ named few traces) (many_cells others named_too many) = absurd (not-many (block_count (length c.drivers) cycles) many few)
+one_on_trace c cycles seed list text other status last is (refused_names _ _ refused) (refused_names _ _ again) = one_refused_name c (names_in list) text other status last is refused again
+one_on_trace c cycles seed list text other status last is (refused_names _ _ refused) (refused_cells sigs _ _ named _) = absurd (refused-or-named c (names_in list) text status sigs named refused)
+one_on_trace c cycles seed list text other status last is (refused_names _ _ refused) (traced sigs _ named _ _) = absurd (refused-or-named c (names_in list) text status sigs named refused)
+one_on_trace c cycles seed list text other status last is (refused_cells sigs _ _ named _) (refused_names _ _ refused) = absurd (refused-or-named c (names_in list) other last sigs named refused)
+one_on_trace c cycles seed list text other status last is (refused_cells _ _ _ _ refused) (refused_cells _ _ _ _ again) = one_refused_count (length c.drivers) cycles text other status last refused again
+one_on_trace c cycles seed list text other status last is (refused_cells _ _ _ _ refused) (traced _ _ _ few _) = absurd (refused-or-few (length c.drivers) cycles text status few refused)
+one_on_trace c cycles seed list text other status last is (traced sigs _ named _ _) (refused_names _ _ refused) = absurd (refused-or-named c (names_in list) other last sigs named refused)
+one_on_trace c cycles seed list text other status last is (traced _ _ _ few _) (refused_cells _ _ _ _ refused) = absurd (refused-or-few (length c.drivers) cycles other last few refused)
 one_on_trace c cycles seed list text other status last is (traced sigs t named few traces) (traced others u named_too few_too traces_too) =
     (same-text c seed cycles (names_in list) sigs others t u is named named_too traces traces_too, refl)
 
 -- the trace of names of signals, each once, and of few enough cells
 pub traced_done : (c : Circuit) (cycles seed : ℕ) (list text : List ℕ) (status : Status) (sigs : List Sig) → AreNamed c (names_in list) sigs → block_count (length c.drivers) cycles ≤ 4194304 → OnTrace c cycles seed list text status
     → status ≡ statuses.Done
-traced_done c cycles seed list text status sigs named few (unknown_name x unknown) = absurd (unknown-or-named c (names_in list) x sigs named unknown)
-traced_done c cycles seed list text status sigs named few (name_twice x twice) = absurd (twice-or-named c (names_in list) x sigs named twice)
-traced_done c cycles seed list text status sigs named few (many_cells others _ many) = absurd (not-many (block_count (length c.drivers) cycles) many few)
+traced_done c cycles seed list text status sigs named few (refused_names _ _ refused) = absurd (refused-or-named c (names_in list) text status sigs named refused)
+traced_done c cycles seed list text status sigs named few (refused_cells _ _ _ _ refused) = absurd (refused-or-few (length c.drivers) cycles text status few refused)
 traced_done c cycles seed list text status sigs named few (traced others _ _ _ traces) = refl

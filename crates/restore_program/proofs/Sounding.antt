@@ -21,7 +21,7 @@ use Rattle.restore_program.specs.Faults.{TellsEnough}
 use Rattle.restore_program.specs.ReplyAnswers.{ReplyAnswer}
 use Rattle.restore_program.specs.Status.{IsPlain}
 use Rattle.restore_program.specs.Sound.{Accepts, IsAccepted, IsCompleted, IsDumpAgain, IsSoundTable, NoneMatches}
-use Rattle.restore_program.specs.Tracing.{OnTrace, unknown_name, name_twice, many_cells, traced}
+use Rattle.restore_program.specs.Tracing.{OnTrace, unknown_name, name_twice, many_cells, refused_cells, refused_names, traced}
 use Rattle.restore_program.proofs.OneAnswer.{accepted_is_completed, answer_to, clash_known, is_circuit}
 
 -- a refused netlist has its own status
@@ -89,9 +89,9 @@ sound_answer words held text status (netlist, dump, all, asks) answer e = on (an
 -- ---- a contradiction
 
 no_clash_trace : (c : Circuit) (cycles seed : ℕ) (list text : List ℕ) (status : Status) → OnTrace c cycles seed list text status → status ≡ statuses.Contradiction → ⊥
-no_clash_trace c cycles seed list text status (unknown_name name unknown) e = cc
-no_clash_trace c cycles seed list text status (name_twice name twice) e = cc
-no_clash_trace c cycles seed list text status (many_cells sigs named many) e = cc
+no_clash_trace c cycles seed list text status (refused_names _ _ (unknown_name name unknown)) e = cc
+no_clash_trace c cycles seed list text status (refused_names _ _ (name_twice name twice)) e = cc
+no_clash_trace c cycles seed list text status (refused_cells sigs _ _ named (many_cells many)) e = cc
 no_clash_trace c cycles seed list text status (traced sigs t named few traces) e = cc
 
 no_refused_clash : (held : Held) (netlist text : List ℕ) (status : Status) → OnRefused held netlist text status → status ≡ statuses.Contradiction → ⊥

@@ -44,11 +44,18 @@ IsDrawnRun c seed cycles v = IsSimulated c cycles (drawn_bit seed (length c.inpu
 abbrev pub IsTraceText : Circuit → ℕ → ℕ → List Sig → List ℕ → Type 0
 IsTraceText c seed cycles sigs text = (v : Valuation) × IsDrawnRun c seed cycles v × (text ≡ printed c.names (record { cycles = cycles; rows = traced_rows v cycles sigs }))
 
+-- the first of the names that is wrong
+pub data RefusedNames (c : Circuit) (names : List (List ℕ)) : List ℕ → Status → Type 0 where
+  unknown_name : (name : List ℕ) → IsUnknownFirst c names name → RefusedNames c names (unknown_trace_line name) statuses.Words
+  name_twice : (name : List ℕ) → IsTwiceFirst c names name → RefusedNames c names (trace_twice_line name) statuses.Words
+
+-- by the words there are too many cells of so many signals
+pub data RefusedCells (signals cycles : ℕ) : List ℕ → Status → Type 0 where
+  many_cells : 4194304 < block_count signals cycles → RefusedCells signals cycles (many_cells_line (block_count signals cycles)) statuses.Dump
+
 -- on a netlist, so many cycles, a seed and a list of names
 pub data OnTrace (c : Circuit) (cycles seed : ℕ) (list : List ℕ) : List ℕ → Status → Type 0 where
-  unknown_name : (name : List ℕ) → IsUnknownFirst c (names_in list) name → OnTrace c cycles seed list (unknown_trace_line name) statuses.Words
-  name_twice : (name : List ℕ) → IsTwiceFirst c (names_in list) name → OnTrace c cycles seed list (trace_twice_line name) statuses.Words
-  many_cells : (sigs : List Sig) → AreNamed c (names_in list) sigs → 4194304 < block_count (length c.drivers) cycles
-      → OnTrace c cycles seed list (many_cells_line (block_count (length c.drivers) cycles)) statuses.Dump
+  refused_names : (text : List ℕ) (status : Status) → RefusedNames c (names_in list) text status → OnTrace c cycles seed list text status
+  refused_cells : (sigs : List Sig) (text : List ℕ) (status : Status) → AreNamed c (names_in list) sigs → RefusedCells (length c.drivers) cycles text status → OnTrace c cycles seed list text status
   traced : (sigs : List Sig) (text : List ℕ) → AreNamed c (names_in list) sigs → block_count (length c.drivers) cycles ≤ 4194304 → IsTraceText c seed cycles sigs text
       → OnTrace c cycles seed list text statuses.Done

@@ -1,7 +1,7 @@
 use Rattle.std.proofs.Common.{ℕ, ◌≡◌, ◌<◌, ◌≤◌, ◌+◌, ◌*◌, ◌/◌, ◌%◌, min, ◌∙◌, None, length, sym, ap, subst, arith}
 use Rattle.dump_reader.specs.Grammar.{block_count}
 use Rattle.report.specs.Refusals.{many_cells_line}
-use Rattle.restore_program.specs.Tracing.{IsTraceText, OnTrace, many_cells, traced}
+use Rattle.restore_program.specs.Tracing.{IsTraceText, OnTrace, many_cells, refused_cells, traced}
 use Rattle.restore_program.specs.declared.status.Status.TheVariants as statuses
 use Rattle.restore_program.specs.ReplyAnswers.{Replies, refusal_fault}
 use Rattle.restore_program.specs.Reply.{IsReady}
@@ -31,7 +31,7 @@ pub returns-then-product-gt-MOST_BLOCKS-clause-answer : goal.returns-then-produc
 returns-then-product-gt-MOST_BLOCKS-clause-answer c =
     let product = blocks_are (length c.args.n.now.drivers) c.args.cycles c.from.result c.from-2.result (c.from.ensures ∙ c.signals.ensures.count) (c.from-2.ensures ∙ c.div_ceil.ensures) in
     λ words there plain. subst (λ p. OnTrace c.args.n.now c.args.cycles c.args.seed c.args.list.now (many_cells_line p) statuses.Dump) (sym product)
-    (many_cells c.in-Ok.sigs.items c.in-Ok.ensures.named (subst (λ p. 4194304 < p) product c.if-product-gt-MOST_BLOCKS.true))
+    (refused_cells c.in-Ok.sigs.items _ _ c.in-Ok.ensures.named (many_cells (subst (λ p. 4194304 < p) product c.if-product-gt-MOST_BLOCKS.true)))
 
 pub returns-in-Ok-trace_text-clause-answer : goal.returns-in-Ok-trace_text-clause-answer
 returns-in-Ok-trace_text-clause-answer c =
