@@ -64,6 +64,14 @@ load_is_one = (3, lit< tt, refl)
 pub shaped_command : (rule : CommandRule) (words : List (List ℕ)) → Contains command_rules rule → IsShaped rule words → IsCommand words
 shaped_command rule words (k, h, e) shaped = (k, rule, h, e, shaped)
 
+-- words with its shape are few
+pub small_rule : (rule : CommandRule) → Contains command_rules rule → 1 + rule.files + length rule.keys < 16
+small_rule rule (zero, h, e) = subst (λ r. 1 + r.files + length r.keys < 16) e (lit< tt)
+small_rule rule (suc zero, h, e) = subst (λ r. 1 + r.files + length r.keys < 16) e (lit< tt)
+small_rule rule (suc (suc zero), h, e) = subst (λ r. 1 + r.files + length r.keys < 16) e (lit< tt)
+small_rule rule (suc (suc (suc zero)), h, e) = subst (λ r. 1 + r.files + length r.keys < 16) e (lit< tt)
+small_rule rule (suc (suc (suc (suc k))), h, e) = absurd (omega arith)
+
 -- the first rule of the table with this name
 by_name : List ℕ → Option CommandRule
 by_name name = find (λ (rule : CommandRule). bytes_eq rule.name name) command_rules

@@ -1,9 +1,9 @@
 //! Reads the words of the command line.
-ghost use Rattle.std.specs.Prelude.{◌≡◌, ◌↔◌, ◌<◌, Bool, IsTrue, ℕ, List, Some, Ok, Err, map, length};
+ghost use Rattle.std.specs.Prelude.{◌≡◌, ◌↔◌, ◌<◌, All, Any, Bool, Contains, IfErr, IsTrue, ℕ, List, OnOk, Some, Ok, Err, map, length};
 ghost use Rattle.std.specs.List.{slice_get};
 ghost use Rattle.std.specs.String.{string_bytes};
-ghost use Rattle.restore_program.specs.Words.{IsBadNumber, IsCommand, IsPrint, IsShaped, Loads, Restores, Simulates, load_rule, simulate_rule};
-ghost use Rattle.restore_program.specs.WordRules.{command_rule_of};
+ghost use Rattle.restore_program.specs.Words.{IsBadNumber, IsCommand, IsPrint, IsShaped, Loads, Restores, Simulates, command_rules, later, load_rule, simulate_rule};
+ghost use Rattle.restore_program.specs.WordRules.{IsBadFor, command_rule_of};
 ghost use Rattle.restore_program.specs.WordMeaning.{Means};
 
 use crate::word_keys::{is_chosen, place_of, suit_all};
@@ -82,18 +82,30 @@ fn has_files(words: &[String], command: &Command) -> bool
     command.files < words.len() && words[0].as_str() == command.name
 }
 
+/// Refuses the first bad number of words with the shape of this command of the table.
+fn check_numbers(words: &[String], command: &Command) -> Result<(), WordRefusal>
+    requires table { Contains command_rules (command_rule_of command.now) }
+    requires shaped { IsShaped (command_rule_of command.now) (map string_bytes words.now) }
+    ensures good { OnOk result (All (λ word. ¬ Any (IsBadFor word) (command_rule_of command.now).keys) (later (command_rule_of command.now) (map string_bytes words.now))) }
+    ensures bad { IfErr result (λ refusal. Means (map string_bytes words.now) (Err refusal)) }
+{
+    let first = 1 + command.files;
+    match bad_number(&words[first..], command.keys) {
+        Some(place) => Err(WordRefusal::Number {
+            place: (first + place) as u32,
+        }),
+        None => Ok(()),
+    }
+}
+
 /// What the words of a `simulate` say.
 fn read_simulate(words: &[String]) -> Result<Settings, WordRefusal>
     requires { IsShaped simulate_rule (map string_bytes words.now) }
     ensures { Means (map string_bytes words.now) result }
 {
+    check_numbers(words, &SIMULATE)?;
     let first = 1 + SIMULATE.files;
     let keyed = &words[first..];
-    if let Some(place) = bad_number(keyed, SIMULATE.keys) {
-        return Err(WordRefusal::Number {
-            place: (first + place) as u32,
-        });
-    }
     Ok(Settings::Simulate {
         cycles: number_of(keyed, &CYCLES).unwrap() as u32,
         seed: number_of(keyed, &SEED).unwrap(),
@@ -106,13 +118,8 @@ fn read_load(words: &[String]) -> Result<Settings, WordRefusal>
     requires { IsShaped load_rule (map string_bytes words.now) }
     ensures { Means (map string_bytes words.now) result }
 {
-    let first = 1 + LOAD.files;
-    let keyed = &words[first..];
-    if let Some(place) = bad_number(keyed, LOAD.keys) {
-        return Err(WordRefusal::Number {
-            place: (first + place) as u32,
-        });
-    }
+    check_numbers(words, &LOAD)?;
+    let keyed = &words[1 + LOAD.files..];
     Ok(Settings::Load {
         number: number_of(keyed, &NUMBER).unwrap(),
         signals: number_of(keyed, &SIGNALS).unwrap() as u32,

@@ -1,4 +1,5 @@
-use Rattle.std.proofs.Common.{Any, Some, ◌-◌, List, ℕ, map, take, drop, length, refl, lit<, Global, arith}
+use Rattle.std.proofs.Common.{Any, Some, ◌-◌, List, ℕ, map, take, drop, length, refl, sym, subst, lit<, Global, arith}
+use Rattle.std.specs.Prelude.{All}
 use Rattle.std.specs.String.{string_bytes}
 use Rattle.restore_program.specs.Words.{load_rule, number_rule, signals_rule}
 use Rattle.restore_program.specs.WordRules.{IsBadFor}
@@ -9,34 +10,19 @@ use Rattle.restore_program.proofs.Simulations.{bad_is_first, given_number, numbe
 use Rattle.restore_program.proofs.WordPlaces.{drop_images}
 use Rattle.restore_program.proofs.words.read_load.Goals as goal
 
-pub returns-in-Some : goal.returns-in-Some
-returns-in-Some c =
-    let text = string_bytes {Z = Global} in
-    let words = c.args.words.now in
-    let rest : List (List ℕ) = map text (take (length words - 1) (drop 1 words)) in
-    bad_is_first load_rule (map text words) rest c.in-Some.place load_is_one c.requires (drop_images text 1 words) c.in-Some.ensures
-
-pub overflow_cast-result : goal.overflow_cast-result
-overflow_cast-result c =
-    let text = string_bytes {Z = Global} in
-    let words = c.args.words.now in
-    let rest : List (List ℕ) = map text (take (length words - 1) (drop 1 words)) in
-    let within = place_within (λ word. Any (IsBadFor word) load_rule.keys) (map text words) rest 1 c.in-Some.place (Some c.in-Some.place) (drop_images text 1 words) c.in-Some.ensures refl in
-    grind (arith, within, few_words load_rule (map text words) c.requires)
-
 pub unwrap-requires : goal.unwrap-requires
 unwrap-requires c =
     let text = string_bytes {Z = Global} in
     let words = c.args.words.now in
     let rest : List (List ℕ) = map text (take (length words - 1) (drop 1 words)) in
-    number_found load_rule.keys 0 number_rule 0 18446744073709551615 rest c.number_of.result (lit< tt) refl refl (number_given (map text words) rest c.requires (drop_images text 1 words)) c.in_default.ensures c.number_of.ensures
+    number_found load_rule.keys 0 number_rule 0 18446744073709551615 rest c.number_of.result (lit< tt) refl refl (number_given (map text words) rest c.requires (drop_images text 1 words)) (subst (All (λ word. ¬ Any (IsBadFor word) load_rule.keys)) (sym (drop_images text 1 words)) c.in_ok-check_numbers.ensures.good) c.number_of.ensures
 
 pub unwrap-requires-2 : goal.unwrap-requires-2
 unwrap-requires-2 c =
     let text = string_bytes {Z = Global} in
     let words = c.args.words.now in
     let rest : List (List ℕ) = map text (take (length words - 1) (drop 1 words)) in
-    number_found load_rule.keys 1 signals_rule 16 65536 rest c.number_of-2.result (lit< tt) refl refl (signals_given (map text words) rest c.requires (drop_images text 1 words)) c.in_default.ensures c.number_of-2.ensures
+    number_found load_rule.keys 1 signals_rule 16 65536 rest c.number_of-2.result (lit< tt) refl refl (signals_given (map text words) rest c.requires (drop_images text 1 words)) (subst (All (λ word. ¬ Any (IsBadFor word) load_rule.keys)) (sym (drop_images text 1 words)) c.in_ok-check_numbers.ensures.good) c.number_of-2.ensures
 
 pub returns : goal.returns
 returns c =

@@ -1,5 +1,6 @@
-use Rattle.std.proofs.Common.{Any, Some, ◌<◌, ◌+◌, ◌-◌, List, ℕ, map, take, drop, length, refl, subst, lit<, Global, arith}
+use Rattle.std.proofs.Common.{Any, Some, ◌<◌, ◌+◌, ◌-◌, List, ℕ, map, take, drop, length, refl, sym, subst, lit<, Global, arith}
 use Rattle.std.proofs.lemmas.List.{length-map}
+use Rattle.std.specs.Prelude.{All}
 use Rattle.std.specs.String.{string_bytes}
 use Rattle.restore_program.specs.Words.{cycles_rule, seed_rule, simulate_rule, trace_rule, IsFor}
 use Rattle.restore_program.specs.WordRules.{IsBadFor}
@@ -9,33 +10,19 @@ use Rattle.restore_program.proofs.Simulations.{bad_is_first, cycles_given, given
 use Rattle.restore_program.proofs.WordPlaces.{drop_images}
 use Rattle.restore_program.proofs.words.read_simulate.Goals as goal
 
-pub returns-in-Some : goal.returns-in-Some
-returns-in-Some c =
-    let text = string_bytes {Z = Global} in
-    let words = c.args.words.now in
-    bad_is_first simulate_rule (map text words) (map text (take (length words - 2) (drop 2 words))) c.in-Some.place simulate_is_one c.requires (drop_images text 2 words) c.in-Some.ensures
-
-pub overflow_cast-result : goal.overflow_cast-result
-overflow_cast-result c =
-    let text = string_bytes {Z = Global} in
-    let words = c.args.words.now in
-    let rest : List (List ℕ) = map text (take (length words - 2) (drop 2 words)) in
-    let within = place_within (λ word. Any (IsBadFor word) simulate_rule.keys) (map text words) rest 2 c.in-Some.place (Some c.in-Some.place) (drop_images text 2 words) c.in-Some.ensures refl in
-    grind (arith, within, few_words simulate_rule (map text words) c.requires)
-
 pub unwrap-requires : goal.unwrap-requires
 unwrap-requires c =
     let text = string_bytes {Z = Global} in
     let words = c.args.words.now in
     let rest : List (List ℕ) = map text (take (length words - 2) (drop 2 words)) in
-    number_found simulate_rule.keys 0 cycles_rule 1 8192 rest c.number_of.result (lit< tt) refl refl (cycles_given (map text words) rest c.requires (drop_images text 2 words)) c.in_default.ensures c.number_of.ensures
+    number_found simulate_rule.keys 0 cycles_rule 1 8192 rest c.number_of.result (lit< tt) refl refl (cycles_given (map text words) rest c.requires (drop_images text 2 words)) (subst (All (λ word. ¬ Any (IsBadFor word) simulate_rule.keys)) (sym (drop_images text 2 words)) c.in_ok-check_numbers.ensures.good) c.number_of.ensures
 
 pub unwrap-requires-2 : goal.unwrap-requires-2
 unwrap-requires-2 c =
     let text = string_bytes {Z = Global} in
     let words = c.args.words.now in
     let rest : List (List ℕ) = map text (take (length words - 2) (drop 2 words)) in
-    number_found simulate_rule.keys 1 seed_rule 0 18446744073709551615 rest c.number_of-2.result (lit< tt) refl refl (seed_given (map text words) rest c.requires (drop_images text 2 words)) c.in_default.ensures c.number_of-2.ensures
+    number_found simulate_rule.keys 1 seed_rule 0 18446744073709551615 rest c.number_of-2.result (lit< tt) refl refl (seed_given (map text words) rest c.requires (drop_images text 2 words)) (subst (All (λ word. ¬ Any (IsBadFor word) simulate_rule.keys)) (sym (drop_images text 2 words)) c.in_ok-check_numbers.ensures.good) c.number_of-2.ensures
 
 pub unwrap-requires-3 : goal.unwrap-requires-3
 unwrap-requires-3 c =
@@ -44,8 +31,8 @@ unwrap-requires-3 c =
     let rest : List (List ℕ) = map text (take (length words - 2) (drop 2 words)) in
     place_found trace_rule rest c.place_of.result (trace_given (map text words) rest c.requires (drop_images text 2 words)) c.place_of.ensures
 
-pub overflow_add-result-2 : goal.overflow_add-result-2
-overflow_add-result-2 c =
+pub overflow_add-result : goal.overflow_add-result
+overflow_add-result c =
     let text = string_bytes {Z = Global} in
     let words = c.args.words.now in
     let rest : List (List ℕ) = map text (take (length words - 2) (drop 2 words)) in
@@ -53,8 +40,8 @@ overflow_add-result-2 c =
     subst (λ n. 2 + c.unwrap-3.result < n) (length-map words text) (place_within (IsFor trace_rule) (map text words) rest 2 c.unwrap-3.result c.place_of.result (drop_images text 2 words) c.place_of.ensures c.unwrap-3.ensures) in
     grind (arith, within)
 
-pub overflow_cast-result-3 : goal.overflow_cast-result-3
-overflow_cast-result-3 c =
+pub overflow_cast-result-2 : goal.overflow_cast-result-2
+overflow_cast-result-2 c =
     let text = string_bytes {Z = Global} in
     let words = c.args.words.now in
     let rest : List (List ℕ) = map text (take (length words - 2) (drop 2 words)) in
