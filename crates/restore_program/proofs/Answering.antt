@@ -194,15 +194,6 @@ unread_input part reads.Fault of = of
 unread_input part reads.TooLong of = of
 unread_input part reads.NoMemory of = of
 
-pub held_netlist : (told : Option Held) (name bytes : List ℕ) (c : Circuit) → IfSome told (λ held. held name ≡ Some bytes) → IsNetlistText bytes c → IfSome told (λ held. IsNetlistOf held name c)
-held_netlist None name bytes c is text = tt
-held_netlist (Some held) name bytes c is text = (bytes, is, text)
-
-pub held_refused : (words : List (List ℕ)) (told : Option Held) (name bytes : List ℕ) (reply : Reply) → IfSome told (λ held. held name ≡ Some bytes) → Replies words (RefusedNetlist bytes) reply
-    → IfSome told (λ held. Replies words (OnRefused held name) reply)
-held_refused words None name bytes reply is refused = tt
-held_refused words (Some held) name bytes reply is refused = λ plain. (bytes, is, refused plain)
-
 pub held_dump : (words : List (List ℕ)) (told : Option Held) (name bytes : List ℕ) (c : Circuit) (all : Bool) (reply : Reply) → IfSome told (λ held. held name ≡ Some bytes) → Replies words (OnDump c bytes all) reply
     → IfSome told (λ held. Replies words (DumpAnswer held c name all) reply)
 held_dump words None name bytes c all reply is answer = tt

@@ -43,9 +43,6 @@ bad_at_has_key rule words place (k, key, h, e, (value, gift, bad)) = record {
 pub bad_has_key : (words : List (List ℕ)) (place : ℕ) → IsBadNumber words place → HasKey words place
 bad_has_key words place (k, rule, h, e, (shaped, first)) = bad_at_has_key rule words place first.0
 
-pub bad_key : (words : List (List ℕ)) (place : ℕ) (key : List ℕ) → IsBadNumber words place → (word value : List ℕ) → slice_get words place ≡ Some word → Gives word key value → key_of (word_at words place) ≡ key
-bad_key words place key bad word value at gives = ap key_of (get_or_from_slice_get words place word [] at) ∙ gift_key word key value gives
-
 -- the list of a word `trace=..`, by its place
 pub list_at : (words : List (List ℕ)) (place : ℕ) (word list : List ℕ) → slice_get words place ≡ Some word → Gives word trace_rule.name list → HasListAt words place list
 list_at words place word list at gives =

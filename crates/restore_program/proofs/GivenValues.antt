@@ -46,9 +46,6 @@ IsValue word key r = (value : List ℕ) → (option_map (λ (v : Bor (List ℕ))
 pub value_at : (word key : List ℕ) (r : Option (Bor (List ℕ))) (v : Bor (List ℕ)) → IsValue word key r → r ≡ Some v → Gives word key v.now
 value_at word key r v says e = (says v.now).0 (ap (option_map (λ (v : Bor (List ℕ)). v.now)) e)
 
-pub no_value : (word key value : List ℕ) (r : Option (Bor (List ℕ))) → IsValue word key r → r ≡ None → ¬ Gives word key value
-no_value word key value r says e g = let some : option_map (λ (v : Bor (List ℕ)). v.now) r ≡ Some value = (says value).1 g in cc
-
 pub given_some : (word key : List ℕ) (r : Option (Bor (List ℕ))) → IsValue word key r → is_some r ≡ true → (value : List ℕ) × Gives word key value
 given_some word key None says e = absurd (cc)
 given_some word key (Some v) says e = (v.now, (says v.now).0 refl)

@@ -1,5 +1,5 @@
 -- Which inputs are come to, and what is said of one that was not read.
-use Rattle.std.specs.Prelude.{ℕ, ◌≡◌, ◌⊎◌, Bool, List, ◌∷◌, ◌++◌, Option, Some, IfSome, All}
+use Rattle.std.specs.Prelude.{ℕ, ◌≡◌, ◌⊎◌, Bool, List, [], ◌∷◌, ◌++◌, Option, Some, IfSome, All}
 use Rattle.sr_outside.specs.Told.{Held, IsSteady}
 use Rattle.netlist.specs.Circuit.{Circuit}
 use Rattle.dump_reader.specs.Recording.{Recording}
@@ -7,19 +7,15 @@ use Rattle.report.specs.declared.refusal.Part.{Part}
 use Rattle.report.specs.declared.refusal.Part.TheVariants as parts
 use Rattle.restore_program.specs.Answer.{IsDumpText, IsNetlistOf}
 use Rattle.restore_program.specs.Requests.{File, Request, Asks, files_of}
-use Rattle.restore_program.specs.Words.{IsBadNumber, IsCommand, Loads}
+use Rattle.restore_program.specs.Words.{IsBadNumber, IsCommand}
 
 -- the words are refused by themselves
 abbrev pub AreRefused : List (List ℕ) → Type 0
 AreRefused words = ¬ IsCommand words ⊎ ((place : ℕ) × IsBadNumber words place)
 
--- the words ask for what follows in a netlist that is drawn from a number
-abbrev pub IsLoad : List (List ℕ) → Type 0
-IsLoad words = (number signals : ℕ) × Loads words number signals
-
--- no input is started on these words
+-- no input is started on these words: they are refused, or what they ask for comes to no file
 abbrev pub NeedsNoInput : List (List ℕ) → Type 0
-NeedsNoInput words = AreRefused words ⊎ IsLoad words
+NeedsNoInput words = AreRefused words ⊎ ((request : Request) × Asks words request × (files_of request ≡ []))
 
 -- The answer of these inputs is known from what is told: they are what is told, or none is needed.
 abbrev pub TellsEnough : List (List ℕ) → Option Held → Held → Type 0

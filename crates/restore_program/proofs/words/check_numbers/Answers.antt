@@ -1,7 +1,7 @@
-use Rattle.std.proofs.Common.{Any, Some, ◌+◌, ◌-◌, List, ℕ, map, take, drop, length, refl, subst, ap, Global, arith}
+use Rattle.std.proofs.Common.{Any, Some, ◌+◌, ◌-◌, List, ℕ, map, take, drop, length, refl, subst, Global, arith}
 use Rattle.std.specs.Prelude.{All}
 use Rattle.std.specs.String.{string_bytes}
-use Rattle.restore_program.specs.Words.{CommandRule, later}
+use Rattle.restore_program.specs.Words.{CommandRule}
 use Rattle.restore_program.specs.WordRules.{IsBadFor, command_rule_of}
 use Rattle.restore_program.proofs.CommandShapes.{small_rule}
 use Rattle.restore_program.proofs.FewWords.{few_words}

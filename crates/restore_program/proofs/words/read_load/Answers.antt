@@ -1,12 +1,10 @@
-use Rattle.std.proofs.Common.{Any, Some, ◌-◌, List, ℕ, map, take, drop, length, refl, sym, subst, lit<, Global, arith}
+use Rattle.std.proofs.Common.{Any, ◌-◌, List, ℕ, map, take, drop, length, refl, sym, subst, lit<, Global}
 use Rattle.std.specs.Prelude.{All}
 use Rattle.std.specs.String.{string_bytes}
 use Rattle.restore_program.specs.Words.{load_rule, number_rule, signals_rule}
 use Rattle.restore_program.specs.WordRules.{IsBadFor}
-use Rattle.restore_program.proofs.CommandShapes.{load_is_one}
-use Rattle.restore_program.proofs.FewWords.{few_words}
 use Rattle.restore_program.proofs.Loads.{number_given, signals_given}
-use Rattle.restore_program.proofs.Simulations.{bad_is_first, given_number, number_found, place_within}
+use Rattle.restore_program.proofs.Simulations.{given_number, number_found}
 use Rattle.restore_program.proofs.WordPlaces.{drop_images}
 use Rattle.restore_program.proofs.words.read_load.Goals as goal
 

@@ -1,12 +1,11 @@
-use Rattle.std.proofs.Common.{Any, Some, ◌<◌, ◌+◌, ◌-◌, List, ℕ, map, take, drop, length, refl, sym, subst, lit<, Global, arith}
+use Rattle.std.proofs.Common.{Any, ◌<◌, ◌+◌, ◌-◌, List, ℕ, map, take, drop, length, refl, sym, subst, lit<, Global, arith}
 use Rattle.std.proofs.lemmas.List.{length-map}
 use Rattle.std.specs.Prelude.{All}
 use Rattle.std.specs.String.{string_bytes}
 use Rattle.restore_program.specs.Words.{cycles_rule, seed_rule, simulate_rule, trace_rule, IsFor}
 use Rattle.restore_program.specs.WordRules.{IsBadFor}
-use Rattle.restore_program.proofs.CommandShapes.{simulate_is_one}
 use Rattle.restore_program.proofs.FewWords.{few_words}
-use Rattle.restore_program.proofs.Simulations.{bad_is_first, cycles_given, given_number, given_text, number_found, place_found, place_within, seed_given, simulates, trace_given}
+use Rattle.restore_program.proofs.Simulations.{cycles_given, given_number, given_text, number_found, place_found, place_within, seed_given, simulates, trace_given}
 use Rattle.restore_program.proofs.WordPlaces.{drop_images}
 use Rattle.restore_program.proofs.words.read_simulate.Goals as goal
 
