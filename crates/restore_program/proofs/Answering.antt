@@ -42,7 +42,7 @@ use Rattle.restore_program.specs.declared.status.Status.{Status}
 use Rattle.restore_program.specs.declared.status.Status.TheVariants as statuses
 use Rattle.restore_program.specs.declared.words.Settings.{Settings}
 use Rattle.restore_program.specs.Outcome.{IsKnown, IsTraced}
-use Rattle.restore_program.specs.Reply.{IsReady, text_of, status_of, refusal_status}
+use Rattle.restore_program.specs.Reply.{IsReady, IsResult, text_of, status_of, refusal_status}
 use Rattle.restore_program.specs.Requests.{Request, Asks}
 use Rattle.restore_program.specs.TraceRefusals.{HasListAt, IsItem, IsTraceRefusal, list_refusal}
 use Rattle.restore_program.specs.Tracing.{OnTrace, name_twice, names_in, refused_names, unknown_name}
@@ -277,10 +277,21 @@ says_refused words told shaky (refusals.Dumped (dumps.TwiceNamed line)) answer f
 says_refused words told shaky (refusals.Dumped (dumps.RowLength line)) answer fault = plainly words told (replies.Refused (refusals.Dumped (dumps.RowLength line))) answer tt
 says_refused words told shaky (refusals.Dumped (dumps.BadBit line)) answer fault = plainly words told (replies.Refused (refusals.Dumped (dumps.BadBit line))) answer tt
 
-pub says : (words : List (List ℕ)) (told : Option Held) (shaky : Option (List ℕ → Bool)) (reply : Reply) → ReplyAnswer words told reply → IfSome (fault_of reply) (IsWordsFault words told shaky)
+says_text : (words : List (List ℕ)) (told : Option Held) (shaky : Option (List ℕ → Bool)) (text : WithRoom ℕ) (status : Status) → IsResult status → ReplyAnswer words told (replies.Text text status) → Says words told shaky text.items status
+says_text words told shaky text statuses.Done result answer = plainly words told (replies.Text text statuses.Done) answer tt
+says_text words told shaky text statuses.Contradiction result answer = plainly words told (replies.Text text statuses.Contradiction) answer tt
+says_text words told shaky text statuses.Words result answer = absurd result
+says_text words told shaky text statuses.Netlist result answer = absurd result
+says_text words told shaky text statuses.Dump result answer = absurd result
+says_text words told shaky text statuses.ReadFault result answer = absurd result
+says_text words told shaky text statuses.WriteFault result answer = absurd result
+says_text words told shaky text statuses.NoMemory result answer = absurd result
+says_text words told shaky text statuses.Certificate result answer = absurd result
+
+pub says : (words : List (List ℕ)) (told : Option Held) (shaky : Option (List ℕ → Bool)) (reply : Reply) → IsReady words reply → ReplyAnswer words told reply → IfSome (fault_of reply) (IsWordsFault words told shaky)
     → Says words told shaky (text_of words reply) (status_of reply)
-says words told shaky (replies.Refused r) answer fault = says_refused words told shaky r answer fault
-says words told shaky (replies.Known t) answer fault = plainly words told (replies.Known t) answer tt
-says words told shaky (replies.Clash n cell) answer fault = plainly words told (replies.Clash n cell) answer tt
-says words told shaky (replies.Text text) answer fault = plainly words told (replies.Text text) answer tt
-says words told shaky (replies.Load loaded) answer fault = plainly words told (replies.Load loaded) answer tt
+says words told shaky (replies.Refused r) ready answer fault = says_refused words told shaky r answer fault
+says words told shaky (replies.Known t) ready answer fault = plainly words told (replies.Known t) answer tt
+says words told shaky (replies.Clash n cell) ready answer fault = plainly words told (replies.Clash n cell) answer tt
+says words told shaky (replies.Text text status) ready answer fault = says_text words told shaky text status ready answer
+says words told shaky (replies.Load loaded) ready answer fault = plainly words told (replies.Load loaded) answer tt

@@ -24,7 +24,7 @@ prepared_status reply prepared (inl same) e = subst (λ r. status_of r ≡ statu
 prepared_status (replies.Known table) prepared (inr (_, none)) e = absurd cc
 prepared_status (replies.Refused r) prepared (inr (other, none)) e = absurd other
 prepared_status (replies.Clash n cell) prepared (inr (other, none)) e = absurd other
-prepared_status (replies.Text text) prepared (inr (other, none)) e = absurd other
+prepared_status (replies.Text text status) prepared (inr (other, none)) e = absurd other
 prepared_status (replies.Load loaded) prepared (inr (other, none)) e = absurd other
 
 -- and none says that a part was not read
@@ -33,5 +33,5 @@ prepared_fault reply prepared (inl same) = ap fault_of same
 prepared_fault (replies.Known table) prepared (inr (_, none)) = ap fault_of none
 prepared_fault (replies.Refused r) prepared (inr (other, none)) = absurd other
 prepared_fault (replies.Clash n cell) prepared (inr (other, none)) = absurd other
-prepared_fault (replies.Text text) prepared (inr (other, none)) = absurd other
+prepared_fault (replies.Text text status) prepared (inr (other, none)) = absurd other
 prepared_fault (replies.Load loaded) prepared (inr (other, none)) = absurd other

@@ -1,5 +1,5 @@
 -- The replies whose status is that of refused words.
-use Rattle.std.proofs.Common.{◌≡◌}
+use Rattle.std.proofs.Common.{◌≡◌, ℕ, List, subst}
 use Rattle.bench_reader.specs.declared.reader.BenchRefusal.{BenchRefusal}
 use Rattle.bench_reader.specs.declared.reader.BenchRefusal.TheVariants as bench
 use Rattle.netlist.specs.declared.checks.NetRefusal.{NetRefusal}
@@ -13,7 +13,7 @@ use Rattle.report.specs.declared.refusal.Refusal.TheVariants as refusals
 use Rattle.restore_program.specs.declared.reply.Reply.{Reply}
 use Rattle.restore_program.specs.declared.reply.Reply.TheVariants as replies
 use Rattle.restore_program.specs.declared.status.Status.TheVariants as statuses
-use Rattle.restore_program.specs.Reply.{bench_status, dump_status, net_status, part_status, refusal_status, status_of}
+use Rattle.restore_program.specs.Reply.{IsReady, IsResult, bench_status, dump_status, net_status, part_status, refusal_status, status_of}
 use Rattle.restore_program.specs.ReplyAnswers.{IsOfWords, IsWordsRefusal}
 
 of_bench : (r : BenchRefusal) → bench_status r ≡ statuses.Words → ⊥
@@ -58,9 +58,9 @@ of_refusal (refusals.TraceUnknown place item) e = tt
 of_refusal (refusals.TraceTwice place item) e = tt
 of_refusal refusals.NoMemory e = absurd cc
 
-pub status_of_words : (reply : Reply) → status_of reply ≡ statuses.Words → IsOfWords reply
-status_of_words (replies.Refused r) e = of_refusal r e
-status_of_words (replies.Known table) e = absurd cc
-status_of_words (replies.Clash n cell) e = absurd cc
-status_of_words (replies.Text text) e = absurd cc
-status_of_words (replies.Load loaded) e = absurd cc
+pub status_of_words : (words : List (List ℕ)) (reply : Reply) → IsReady words reply → status_of reply ≡ statuses.Words → IsOfWords reply
+status_of_words words (replies.Refused r) ready e = of_refusal r e
+status_of_words words (replies.Known table) ready e = absurd cc
+status_of_words words (replies.Clash n cell) ready e = absurd cc
+status_of_words words (replies.Text text status) ready e = subst IsResult e ready
+status_of_words words (replies.Load loaded) ready e = absurd cc

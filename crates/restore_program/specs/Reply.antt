@@ -39,12 +39,18 @@ pub record IsTable (table : Table) : Type 0 where
   pub no_clash : (cell : Cell) → HasBoth (passing (has (unrolling_of table) table.planes)) cell → ⊥
   pub traced : table.traced ≤ 536870912
 
+-- how a run ends with a result
+abbrev pub IsResult : Status → Type 0
+IsResult statuses.Done = ⊤
+IsResult statuses.Contradiction = ⊤
+IsResult _ = ⊥
+
 -- what a reply on these words speaks of is there
 abbrev pub IsReady : List (List ℕ) → Reply → Type 0
 IsReady words (replies.Refused refusal) = AreThere words refusal
 IsReady words (replies.Known table) = IsTable table
 IsReady words (replies.Clash netlist cell) = cell.sig.0 < length netlist.drivers
-IsReady words (replies.Text text) = ⊤
+IsReady words (replies.Text text status) = IsResult status
 IsReady words (replies.Load loaded) = ⊤
 
 -- the line of a load netlist
@@ -56,7 +62,7 @@ abbrev pub text_of : List (List ℕ) → Reply → List ℕ
 text_of words (replies.Refused refusal) = refusal_line words refusal
 text_of words (replies.Known table) = table_text table.netlist table.cycles (has (unrolling_of table) table.planes) table.traced table.all
 text_of words (replies.Clash netlist cell) = clash_line netlist cell
-text_of words (replies.Text text) = text.items
+text_of words (replies.Text text status) = text.items
 text_of words (replies.Load loaded) = loaded_line loaded
 
 -- the status of a refused input
@@ -92,7 +98,7 @@ abbrev pub status_of : Reply → Status
 status_of (replies.Refused refusal) = refusal_status refusal
 status_of (replies.Known table) = statuses.Done
 status_of (replies.Clash netlist cell) = statuses.Contradiction
-status_of (replies.Text text) = statuses.Done
+status_of (replies.Text text status) = status
 status_of (replies.Load loaded) = statuses.Done
 
 -- the reply is a table

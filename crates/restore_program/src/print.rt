@@ -9,6 +9,7 @@ ghost use Rattle.restore_program.specs.Requests.{files_of, printing};
 
 use crate::netlists::read_netlist;
 use crate::reply::Reply;
+use crate::status::Status;
 use bench_reader::print_bench;
 use netlist::Netlist;
 use report::Refusal;
@@ -37,7 +38,10 @@ fn printed_reply(alloc: Global, n: &Netlist) -> Reply
     ensures no_fault { fault_of result ≡ None }
 {
     match print_bench(alloc, n) {
-        Ok(text) => Reply::Text { text },
+        Ok(text) => Reply::Text {
+            text,
+            status: Status::Done,
+        },
         Err(NoMemory) => Reply::Refused {
             refusal: Refusal::NoMemory,
         },

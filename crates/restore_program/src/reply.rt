@@ -48,8 +48,8 @@ pub enum Reply {
     Known { table: Table },
     /// Both literals of a cell follow from a dump.
     Clash { netlist: Netlist, cell: Cell },
-    /// A netlist's text or a dump's.
-    Text { text: Bytes },
+    /// A netlist's text or a dump's, and how the run ends with it.
+    Text { text: Bytes, status: Status },
     /// The line of a load netlist.
     Load { loaded: Loaded },
 }
@@ -61,7 +61,8 @@ pub(crate) fn reply_status(reply: &Reply) -> Status
     match reply {
         Reply::Refused { refusal } => refusal_status(refusal),
         Reply::Clash { .. } => Status::Contradiction,
-        Reply::Known { .. } | Reply::Text { .. } | Reply::Load { .. } => Status::Done,
+        Reply::Text { status, .. } => *status,
+        Reply::Known { .. } | Reply::Load { .. } => Status::Done,
     }
 }
 
@@ -162,7 +163,7 @@ pub(crate) fn write_reply<K: Sink>(
         Reply::Refused { refusal } => write_refusal(refusal, words, out),
         Reply::Known { table } => write_known(table, buf.as_mut().unwrap(), out),
         Reply::Clash { netlist, cell } => write_clash(netlist, *cell, out),
-        Reply::Text { text } => write_text(text.as_slice(), out),
+        Reply::Text { text, .. } => write_text(text.as_slice(), out),
         Reply::Load { loaded } => write_loaded(*loaded, out),
     }
 }

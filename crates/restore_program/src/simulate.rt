@@ -13,6 +13,7 @@ ghost use Rattle.restore_program.specs.Tracing.{AreNamed, IsTraceText, OnTrace};
 
 use crate::netlists::read_netlist;
 use crate::reply::Reply;
+use crate::status::Status;
 use crate::trace::{TraceRefusal, traced_signals};
 use cycle_sim::{simulate_trace, stimulus};
 use dump_reader::print_dump;
@@ -69,7 +70,10 @@ fn traced_reply(alloc: Global, n: &Netlist, cycles: u32, seed: u64, place: u32, 
         };
     }
     match trace_text(alloc, n, cycles, seed, sigs.as_slice()) {
-        Ok(text) => Reply::Text { text },
+        Ok(text) => Reply::Text {
+            text,
+            status: Status::Done,
+        },
         Err(NoMemory) => Reply::Refused {
             refusal: Refusal::NoMemory,
         },

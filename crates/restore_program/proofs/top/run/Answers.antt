@@ -17,7 +17,7 @@ returns-in-Ok-clause-answer g c _ =
       text_of words c.prepared_reply-reply.result.reply,
       c.in-Ok.ensures.appended,
       subst (Says words told (g.I.Inputs.shaky c.args.inputs.now) (text_of words c.prepared_reply-reply.result.reply)) (sym c.reply_status-status.ensures)
-          (says words told (g.I.Inputs.shaky c.args.inputs.now) c.prepared_reply-reply.result.reply c.prepared_reply-reply.ensures.answer c.prepared_reply-reply.ensures.reads.cause),
+          (says words told (g.I.Inputs.shaky c.args.inputs.now) c.prepared_reply-reply.result.reply c.prepared_reply-reply.ensures.ready c.prepared_reply-reply.ensures.answer c.prepared_reply-reply.ensures.reads.cause),
     )
 
 pub returns-in-Ok-clause-sound : goal.returns-in-Ok-clause-sound
@@ -45,7 +45,7 @@ returns-in-Ok-clause-completed g c held request enough asks accepted =
 
 pub returns-in-Ok-clause-usage : goal.returns-in-Ok-clause-usage
 returns-in-Ok-clause-usage g c e =
-    c.prepared_reply-reply.ensures.of_words (status_of_words c.prepared_reply-reply.result.reply (sym c.reply_status-status.ensures ∙ e))
+    c.prepared_reply-reply.ensures.of_words (status_of_words (map string_bytes c.args.words.now) c.prepared_reply-reply.result.reply c.prepared_reply-reply.ensures.ready (sym c.reply_status-status.ensures ∙ e))
 
 pub returns-in-Ok-clause-refused : goal.returns-in-Ok-clause-refused
 returns-in-Ok-clause-refused g c refused =
@@ -57,7 +57,7 @@ returns-clause-part g c _ = (
   status_of c.prepared_reply-reply.result.reply,
   c.in-Err.ensures.part,
   c.in-Err.ensures.lacks,
-  says (map string_bytes c.args.words.now) (g.I.Inputs.held c.args.inputs.now) (g.I.Inputs.shaky c.args.inputs.now) c.prepared_reply-reply.result.reply c.prepared_reply-reply.ensures.answer c.prepared_reply-reply.ensures.reads.cause,
+  says (map string_bytes c.args.words.now) (g.I.Inputs.held c.args.inputs.now) (g.I.Inputs.shaky c.args.inputs.now) c.prepared_reply-reply.result.reply c.prepared_reply-reply.ensures.ready c.prepared_reply-reply.ensures.answer c.prepared_reply-reply.ensures.reads.cause,
 )
 
 pub returns-clause-refused : goal.returns-clause-refused
