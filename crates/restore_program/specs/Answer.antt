@@ -4,7 +4,7 @@ use Rattle.sr_model.specs.declared.cells.Cell.{Cell}
 use Rattle.sr_model.specs.declared.cells.Lit.{Lit}
 use Rattle.sr_model.specs.Declaration.{Declaration}
 use Rattle.sr_model.specs.Closure.{HasBoth, IsClash, SameLits, passing}
-use Rattle.sr_model.specs.Dump.{Known, dump_has}
+use Rattle.sr_model.specs.Dump.{Known, Row, dump_has}
 use Rattle.sr_outside.specs.Told.{Held}
 use Rattle.bench_reader.specs.declared.reader.BenchRefusal.{BenchRefusal}
 use Rattle.bench_reader.specs.declared.reader.BenchRefusal.TheVariants as bench
@@ -69,17 +69,21 @@ IsDumpRefusal c bytes r = dump_refusal.IsRefusal c.names (length c.drivers) byte
 abbrev pub IsDumpText : Circuit → List ℕ → Recording → Type 0
 IsDumpText c bytes d = (length bytes ≤ most_bytes parts.Dump) × SpellsDump c bytes d
 
+-- the rows that a recording gives
+abbrev pub given_rows : Recording → List Row
+given_rows d = d.rows
+
 -- what is known from a recording
 abbrev pub KnownFrom : Circuit → Recording → Lit → Type 0
-KnownFrom c d = Known (unrolled_over c d.cycles) d.rows
+KnownFrom c d = Known (unrolled_over c d.cycles) (given_rows d)
 
 -- how many cells of flip-flops have a bit in a recording
 abbrev pub traced_count : Circuit → Recording → ℕ
-traced_count c d = known_count c d.cycles (dump_has d.rows)
+traced_count c d = known_count c d.cycles (dump_has (given_rows d))
 
 -- The cell of a recording's contradiction: the least one that has both literals in the first level that has such a cell.
 abbrev pub IsClashOf : Circuit → Recording → Cell → Type 0
-IsClashOf c d cell = (level : ℕ) × IsClash (unrolled_over c d.cycles) (passing (dump_has d.rows)) cell level
+IsClashOf c d cell = (level : ℕ) × IsClash (unrolled_over c d.cycles) (passing (dump_has (given_rows d))) cell level
 
 -- a dump's text is too long or is refused
 pub data RefusedDump (c : Circuit) (bytes : List ℕ) : List ℕ → Status → Type 0 where

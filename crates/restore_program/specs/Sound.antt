@@ -13,7 +13,7 @@ use Rattle.dump_reader.specs.Grammar.{block_count}
 use Rattle.report.specs.Table.{known_rows, table_text}
 use Rattle.restore_program.specs.declared.status.Status.{Status}
 use Rattle.restore_program.specs.declared.status.Status.TheVariants as statuses
-use Rattle.restore_program.specs.Answer.{IsNetlistOf, IsDumpText, KnownFrom, SpellsDump, traced_count}
+use Rattle.restore_program.specs.Answer.{given_rows, IsNetlistOf, IsDumpText, KnownFrom, SpellsDump, traced_count}
 use Rattle.restore_program.specs.Faults.{IsAcceptedOn}
 use Rattle.restore_program.specs.Requests.{Request, files_of, loading, printing, restoration, simulation}
 use Rattle.restore_program.specs.Tracing.{AreNamed, names_in}
@@ -38,7 +38,7 @@ pub record IsSoundTable (words : List (List ℕ)) (text : List ℕ) (held : Held
   pub known : Lit → Bool
   pub is_known : SameLits (passing known) (KnownFrom c d)
   pub is_table : text ≡ table_text c d.cycles known (traced_count c d) all
-  pub matched : (v : Valuation) → IsExecution (unrolled_over c d.cycles) v → Matches v d.rows → Matches v (known_rows c d.cycles known all).rows
+  pub matched : (v : Valuation) → IsExecution (unrolled_over c d.cycles) v → Matches v (given_rows d) → Matches v (known_rows c d.cycles known all).rows
 
 -- The text is itself a dump of the netlist, and the table of what is known from that dump has its rows and no contradiction.
 pub record IsDumpAgain (words : List (List ℕ)) (text : List ℕ) (held : Held) : Type 0 where
@@ -52,7 +52,7 @@ pub record IsDumpAgain (words : List (List ℕ)) (text : List ℕ) (held : Held)
 
 -- no execution matches the dump
 abbrev pub NoneMatches : List (List ℕ) → Held → Type 0
-NoneMatches words held = (c : Circuit) × (d : Recording) × (all : Bool) × Accepts words held c d all × ((v : Valuation) → IsExecution (unrolled_over c d.cycles) v → Matches v d.rows → ⊥)
+NoneMatches words held = (c : Circuit) × (d : Recording) × (all : Bool) × Accepts words held c d all × ((v : Valuation) → IsExecution (unrolled_over c d.cycles) v → Matches v (given_rows d) → ⊥)
 
 -- ---- what is completed
 
