@@ -1,14 +1,15 @@
-pub mod BenchLaws
-pub mod FormOrNone
-pub mod Forms
-pub mod Lines
-pub mod Pins
-pub mod PrintedTokens
-pub mod PrintedLines
-pub mod PrintedStatements
-pub mod Printing
-pub mod ReadBack
-pub mod ReadOrRefused
-pub mod SignalNames
-pub mod Statements
-pub mod Tokens
+mod BenchLaws
+mod FormOrNone
+mod Forms
+mod Lines
+mod Pins
+mod PrintedTokens
+mod PrintedLines
+mod PrintedStatements
+mod Printing
+mod ReadBack
+mod ReadOrRefused
+mod SignalNames
+mod Statements
+mod Tokens
+pub mod lemmas

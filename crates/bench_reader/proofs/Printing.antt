@@ -2,7 +2,7 @@
 use Rattle.std.proofs.Common.{◌≡◌, ◌⊎◌, ℕ, ◌+◌, ◌<◌, List, [], ◌∷◌, ◌++◌, length, map, take, get_or, Some, sym, ap, subst, ◌∙◌, append_assoc, arith, inl, inr}
 use Rattle.std.specs.Prelude.{codes}
 use Rattle.std.specs.List.{flat_map, All}
-use Rattle.sr_model.proofs.Members.{All-from_Contains}
+use Rattle.sr_model.proofs.lemmas.Members.{All-from_Contains}
 use Rattle.netlist.specs.Circuit.{Circuit, IsCircuit}
 use Rattle.std.proofs.lemmas.List.{take_more, map-append, length-map, length-take-le, append-nil}
 use Rattle.std.proofs.lemmas.List.Concat.{flat_map-append}

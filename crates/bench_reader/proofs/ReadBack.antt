@@ -15,15 +15,13 @@ use Rattle.sr_model.specs.declared.gates.Kind.TheVariants.{And, Nand, Or, Nor, X
 use Rattle.sr_model.specs.Declaration.{Declaration, InputNamed, OutputNamed, DriverNamed}
 use Rattle.sr_model.specs.Gate.{IsPinCount}
 use Rattle.sr_model.specs.Netlist.{Driver, Input, Driven}
-use Rattle.sr_model.proofs.Members.{not_in_nil, Contains-here, Contains-cases, Contains-map, All-from_Contains, filter-passes}
+use Rattle.sr_model.proofs.lemmas.Members.{not_in_nil, Contains-here, Contains-cases, Contains-map, All-from_Contains, filter-passes}
 use Rattle.netlist.specs.Circuit.{Circuit, IsCircuit, IsNetlist, circuit_of}
 use Rattle.netlist.specs.Loops.{HasPinIn, EachHasPinWithin, HasNoLoop}
 use Rattle.netlist.specs.Numbering.{mentions, input_name, output_name, driven_name, pin_names, names_of, once, place_in, sig_in, sig_of, drives, stated_driver, driver_for, driver_by, drivers_of, IsSignalName, IsStatement}
 use Rattle.netlist.specs.Wiring.{driver_at, kind_of, pins_of, is_gate, signals_below, pin_sum, HasPinCount, IsWired}
-use Rattle.netlist.proofs.Marks.{signals_member, signal_within}
-use Rattle.netlist.proofs.Once.{IsApart, once-apart, apart_from_AllPairs, AllPairs-from_apart, lacks-from_has, Contains-from_has, has-from_Contains}
-use Rattle.netlist.proofs.Places.{place_in-lt, place_in-get_or, get_or-map_place}
-use Rattle.netlist.proofs.Statements.{Contains-once, Contains-from_once, driven_mentioned}
+use Rattle.netlist.proofs.lemmas.Signals.{signals_member, signal_within}
+use Rattle.netlist.proofs.lemmas.Names.{IsApart, once-apart, apart_from_AllPairs, AllPairs-from_apart, lacks-from_has, Contains-from_has, has-from_Contains, place_in-lt, place_in-get_or, get_or-map_place, Contains-once, Contains-from_once, driven_mentioned}
 use Rattle.bench_reader.specs.Printed.{name_in}
 use Rattle.bench_reader.specs.PrintLaws.{driver_named, SameNetlist}
 use Rattle.bench_reader.proofs.PrintedStatements.{driver_stated, inputs_stated, outputs_stated, drivers_stated, stated_by}

@@ -11,11 +11,10 @@ use Rattle.std.proofs.lemmas.List.FromFn.{get_or-map-range_with_len, length-map-
 use Rattle.std.proofs.lemmas.Map.Made.{IsDistinct-from_AllPairs, length-le_from_is_member}
 use Rattle.std.proofs.lemmas.Slice.Eq.{bytes_eq-Decides}
 use Rattle.sr_model.specs.declared.cells.Sig.{Sig}
-use Rattle.sr_model.proofs.Members.{not_in_nil, Contains-here, Contains-there, Contains-cases}
+use Rattle.sr_model.proofs.lemmas.Members.{not_in_nil, Contains-here, Contains-there, Contains-cases}
 use Rattle.netlist.specs.Numbering.{once, sig_in}
 use Rattle.netlist.specs.Wiring.{signals_below}
-use Rattle.netlist.proofs.Once.{has, has-append, Contains-from_has, has-from_Contains, lacks-from_has, IsApart, other_name, apart_from_AllPairs, AllPairs-from_apart}
-use Rattle.netlist.proofs.Places.{place_in-lt, get_or-place_in, place_in-get_or}
+use Rattle.netlist.proofs.lemmas.Names.{has, has-append, Contains-from_has, has-from_Contains, lacks-from_has, IsApart, other_name, apart_from_AllPairs, AllPairs-from_apart, place_in-lt, get_or-place_in, place_in-get_or}
 use Rattle.bench_reader.specs.Printed.{name_in}
 
 -- ---- members

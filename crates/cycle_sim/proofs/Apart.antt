@@ -5,8 +5,8 @@ use Rattle.std.proofs.Math.Seq.{split_at}
 use Rattle.std.proofs.lemmas.List.{length-append}
 use Rattle.std.proofs.lemmas.List.Elements.{All-contains, Contains-append_left, Contains-append_right, Contains-append_cases}
 use Rattle.std.proofs.lemmas.List.FromFn.{length-range_with_len, get_or-range_with_len, length-map-range_with_len, get_or-map-range_with_len}
-use Rattle.sr_model.proofs.Members.{Contains-here, Contains-there, Contains-cases}
-use Rattle.unroll.proofs.FlatMaps.{AllPairs-head, AllPairs-tail}
+use Rattle.sr_model.proofs.lemmas.Members.{Contains-here, Contains-there, Contains-cases}
+use Rattle.unroll.proofs.lemmas.FlatMaps.{AllPairs-head, AllPairs-tail}
 
 -- a list whose items are among those of another is no longer
 pub no-longer : {X : Type 0} (xs ys : List X) → AllPairs (λ a b. a ≢ b) xs → ((x : X) → Contains xs x → Contains ys x) → length xs ≤ length ys

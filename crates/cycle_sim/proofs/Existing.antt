@@ -10,13 +10,13 @@ use Rattle.sr_model.specs.declared.cells.Sig.{Sig}
 use Rattle.sr_model.specs.declared.cells.Place.{Place}
 use Rattle.sr_model.specs.Gate.{value}
 use Rattle.sr_model.specs.Netlist.{Driver, Input, Driven, Valuation, Instance, IsRow, cell_at, delay, instance_at}
-use Rattle.sr_model.proofs.Instances.{Stands, stands}
+use Rattle.sr_model.proofs.lemmas.Instances.{Stands, stands}
 use Rattle.netlist.specs.Circuit.{Circuit, IsCircuit, unrolled_over}
 use Rattle.netlist.specs.Wiring.{driver_at, pins_of, is_gate, is_flip_flop, signals_below}
 use Rattle.netlist.specs.Ranks.{IsRank}
-use Rattle.netlist.proofs.Ranking.{ranks_exist}
+use Rattle.netlist.proofs.lemmas.Laws.{ranks_exist}
 use Rattle.dump_reader.specs.Recording.{IsCount}
-use Rattle.unroll.proofs.TaskCells.{delay-cases, driven-within}
+use Rattle.unroll.proofs.lemmas.Tasks.{delay-cases, driven-within}
 use Rattle.cycle_sim.specs.BitTable.{BitTable, bit_in}
 use Rattle.cycle_sim.specs.Simulation.{IsSimulated, AgreeOnCells, bits_of}
 use Rattle.cycle_sim.proofs.GateRows.{its-pins}

@@ -11,13 +11,13 @@ use Rattle.sr_model.specs.declared.cells.Sig.{Sig}
 use Rattle.sr_model.specs.declared.cells.Place.{Place}
 use Rattle.sr_model.specs.Gate.{value}
 use Rattle.sr_model.specs.Netlist.{Driver, Input, Driven, Valuation, cell_at, delay}
-use Rattle.sr_model.proofs.Instances.{instance_of, stands-at}
-use Rattle.sr_model.proofs.Members.{Contains-here, Contains-there, filter-has, filter-passes}
+use Rattle.sr_model.proofs.lemmas.Instances.{instance_of, stands-at}
+use Rattle.sr_model.proofs.lemmas.Members.{Contains-here, Contains-there, filter-has, filter-passes}
 use Rattle.netlist.specs.Circuit.{Circuit, IsCircuit, unrolled_over}
 use Rattle.netlist.specs.Wiring.{driver_at, kind_of, pins_of, is_gate, is_flip_flop, flip_flops, signals_below}
 use Rattle.netlist.specs.Ranks.{IsOrder}
-use Rattle.netlist.proofs.Marks.{signals_member}
-use Rattle.unroll.proofs.TaskCells.{delay-cases}
+use Rattle.netlist.proofs.lemmas.Signals.{signals_member}
+use Rattle.unroll.proofs.lemmas.Tasks.{delay-cases}
 use Rattle.cycle_sim.specs.BitTable.{BitTable, bit_in}
 use Rattle.cycle_sim.specs.Simulation.{IsSimulated}
 use Rattle.cycle_sim.specs.Frames.{IsRight, in_frame, value_by}

@@ -14,7 +14,7 @@ use Rattle.sr_model.specs.Netlist.{Driver, Input, Driven}
 use Rattle.netlist.specs.Circuit.{Circuit, IsCircuit}
 use Rattle.netlist.specs.Wiring.{driver_at, kind_of, pins_of, is_gate, HasPinCount}
 use Rattle.netlist.specs.Ranks.{IsOrder}
-use Rattle.unroll.proofs.TaskCells.{driven-within}
+use Rattle.unroll.proofs.lemmas.Tasks.{driven-within}
 use Rattle.cycle_sim.specs.declared.gates.Gate.{Gate}
 use Rattle.cycle_sim.specs.Frames.{value_by, row_of, IsGate}
 

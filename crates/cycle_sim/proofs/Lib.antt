@@ -1,13 +1,13 @@
-pub mod PackedBits
-pub mod Drawn
-pub mod GateRows
-pub mod PinOrder
-pub mod FrameSteps
-pub mod Existing
+mod PackedBits
+mod Drawn
+mod GateRows
+mod PinOrder
+mod FrameSteps
+mod Existing
 pub mod lemmas
-pub mod Tracing
-pub mod LoadSteps
-pub mod LoadNames
-pub mod Apart
-pub mod LoadShape
-pub mod LoadNets
+mod Tracing
+mod LoadSteps
+mod LoadNames
+mod Apart
+mod LoadShape
+mod LoadNets

@@ -11,18 +11,15 @@ use Rattle.sr_model.specs.declared.gates.Kind.{Kind}
 use Rattle.sr_model.specs.declared.gates.Kind.TheVariants.{Dff}
 use Rattle.sr_model.specs.Declaration.{Declaration, InputNamed, OutputNamed, DriverNamed}
 use Rattle.sr_model.specs.Netlist.{Driver, Input, Driven}
-use Rattle.sr_model.proofs.Members.{not_in_nil, All-from_Contains, All-one, Contains-cases, Contains-there, Contains-map, filter-has, filter-passes, map-member}
+use Rattle.sr_model.proofs.lemmas.Members.{not_in_nil, All-from_Contains, All-one, Contains-cases, Contains-there, Contains-map, filter-has, filter-passes, map-member}
 use Rattle.netlist.specs.Checks.{HasFewPins, IsDriven, IsDrivenOnce}
 use Rattle.netlist.specs.Circuit.{IsNetlist}
 use Rattle.netlist.specs.Loops.{EachHasPinWithin, HasNoLoop}
 use Rattle.netlist.specs.Numbering.{driven_name, driver_by, driver_for, drivers_of, drives, mentions, names_of, pin_names, place_in, sig_of, IsSignalName, IsStatement}
 use Rattle.netlist.specs.Wiring.{driver_at, flip_flops, is_flip_flop, is_gate, pins_of, signals_below}
-use Rattle.netlist.proofs.Marks.{signals_member}
-use Rattle.netlist.proofs.Once.{AllPairs-from_apart, Contains-from_has, has-from_Contains, once-apart}
-use Rattle.netlist.proofs.Places.{get_or-place_in, get_or-map_place, place_in-get_or, place_in-lt}
-use Rattle.netlist.proofs.Settling.{found_member}
-use Rattle.netlist.proofs.Statements.{Contains-from_once, Contains-once, all_mentioned, driven_mentioned}
-use Rattle.unroll.proofs.FlatMaps.{flat_map-found, flat_map-has, signals-ascend}
+use Rattle.netlist.proofs.lemmas.Signals.{signals_member}
+use Rattle.netlist.proofs.lemmas.Names.{AllPairs-from_apart, Contains-from_has, has-from_Contains, once-apart, get_or-place_in, get_or-map_place, place_in-get_or, place_in-lt, found_member, Contains-from_once, Contains-once, all_mentioned, driven_mentioned}
+use Rattle.unroll.proofs.lemmas.FlatMaps.{flat_map-found, flat_map-has, signals-ascend}
 use Rattle.cycle_sim.specs.Load.{IsLoadSize, load_name, input_count, flip_flop_count, first_gate, load_statements}
 use Rattle.cycle_sim.proofs.Apart.{no-longer, apart-drawn, range-has, range-below}
 use Rattle.cycle_sim.proofs.LoadNames.{load_name-same, load_name-stands}

@@ -10,9 +10,9 @@ use Rattle.sr_model.specs.declared.gates.Kind.{Kind}
 use Rattle.sr_model.specs.declared.gates.Kind.TheVariants.{And, Nand, Or, Nor, Xor, Xnor, Not, Buf, Dff}
 use Rattle.sr_model.specs.Declaration.{Declaration, InputNamed, OutputNamed, DriverNamed}
 use Rattle.sr_model.specs.Gate.{IsPinCount}
-use Rattle.sr_model.proofs.Members.{Contains-map, All-one, map-member}
+use Rattle.sr_model.proofs.lemmas.Members.{Contains-map, All-one, map-member}
 use Rattle.netlist.specs.Numbering.{driven_name}
-use Rattle.unroll.proofs.FlatMaps.{AllPairs-join}
+use Rattle.unroll.proofs.lemmas.FlatMaps.{AllPairs-join}
 use Rattle.cycle_sim.specs.Load.{IsLoadSize, load_name, load_word, input_count, flip_flop_count, first_gate, gate_count, gate_kinds, kind_drawn, drawn_pin_count, pins_drawn, gate_start, load_gate, load_flip_flop, load_statements}
 use Rattle.cycle_sim.proofs.Apart.{all-drawn, all-below, apart-drawn, range-has, range-below}
 use Rattle.cycle_sim.proofs.LoadNames.{load_name-same}

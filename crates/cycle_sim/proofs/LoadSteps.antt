@@ -9,8 +9,8 @@ use Rattle.sr_model.specs.Declaration.{Declaration, InputNamed, OutputNamed, dec
 use Rattle.sr_model.specs.Room.{WithRoom, texts}
 use Rattle.netlist.specs.Checks.{without_lines}
 use Rattle.netlist.specs.Circuit.{IsNetlist}
-use Rattle.netlist.proofs.OneRefusal.{netlists_are_not_refused}
-use Rattle.netlist.proofs.Statements.{without_lines-stated}
+use Rattle.netlist.proofs.lemmas.Laws.{netlists_are_not_refused}
+use Rattle.netlist.proofs.lemmas.Names.{without_lines-stated}
 use Rattle.cycle_sim.specs.Load.{AreOnLines, KeepsAllRules, load_name, load_word, input_count, flip_flop_count, gate_count, pins_drawn, gate_words, gate_start, load_gate, load_flip_flop, load_statements}
 
 -- ---- one more line

@@ -8,7 +8,7 @@ use mir.Val.{bool_byte}
 use Rattle.std.proofs.lemmas.Nat.Bits.{bit_at_above}
 use Rattle.unroll.specs.Bits.{is_set}
 use Rattle.cycle_sim.specs.BitTable.{BitTable, HasItsWords, row_words, bit_in}
-use Rattle.unroll.proofs.WordBits.{is_set_or, is_set_shl_low, is_set_shl_high}
+use Rattle.unroll.proofs.lemmas.Words.{is_set_or, is_set_shl_low, is_set_shl_high}
 
 -- the bits of 0 and 1
 abbrev pub digit : Bool → ℕ

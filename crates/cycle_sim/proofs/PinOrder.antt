@@ -8,7 +8,7 @@ use Rattle.sr_model.specs.declared.cells.Sig.{Sig}
 use Rattle.sr_model.specs.Netlist.{Driver}
 use Rattle.netlist.specs.Ranks.{IsRank, IsOrder, rank_by}
 use Rattle.netlist.specs.Wiring.{driver_at, is_gate, pins_of}
-use Rattle.netlist.proofs.Marks.{pin_below, member_place}
+use Rattle.netlist.proofs.lemmas.Signals.{pin_below, member_place}
 
 -- the rank of a pin is less than that of its gate
 pub rank-below : (drivers : List Driver) (ranks : List ℕ) → IsRank drivers ranks → (s pin : Sig) → is_gate (driver_at drivers s.0) ≡ true → Contains (pins_of (driver_at drivers s.0)) pin

@@ -1,12 +1,13 @@
-pub mod Front
-pub mod Literals
-pub mod Printing
-pub mod ReadBack
-pub mod ReadOrRefused
-pub mod ReadSoFar
-pub mod RefusedOnce
-pub mod RowOrRefused
-pub mod Rows
-pub mod SameRows
-pub mod StatedRows
-pub mod Tokens
+mod Front
+mod Literals
+mod Printing
+mod ReadBack
+mod ReadOrRefused
+mod ReadSoFar
+mod RefusedOnce
+mod RowOrRefused
+mod Rows
+mod SameRows
+mod StatedRows
+mod Tokens
+pub mod lemmas

@@ -7,7 +7,7 @@ use Rattle.std.proofs.lemmas.Option.{none-some, same_Some, slice_get-map}
 use Rattle.sr_model.specs.declared.cells.Sig.{Sig}
 use Rattle.sr_model.specs.declared.cells.Lit.{Lit}
 use Rattle.sr_model.specs.Dump.{Row, is_bit, dump_has}
-use Rattle.sr_model.proofs.Members.{not_in_nil, Contains-here, Contains-there, Contains-cases}
+use Rattle.sr_model.proofs.lemmas.Members.{not_in_nil, Contains-here, Contains-there, Contains-cases}
 use Rattle.dump_reader.specs.Grammar.{NamesSignal, StatesRow, bit_read}
 use Rattle.dump_reader.specs.Laws.{RecordsLiteral, HasLiteralsOfRows}
 use Rattle.dump_reader.proofs.SameRows.{HasOwnNames, Line, State, same_signal}

@@ -9,9 +9,8 @@ use Rattle.sr_model.specs.declared.cells.Lit.{Lit}
 use Rattle.sr_model.specs.AndLike.{IsAndLike}
 use Rattle.sr_model.specs.Netlist.{Instance}
 use Rattle.sr_model.specs.Closure.{Forces, passing, lit}
-use Rattle.sr_model.proofs.Rows.{cell_eq, cell_cases, cell_eq-itself}
-use Rattle.sr_model.proofs.AndLike.{bit_cases}
-use Rattle.sr_model.proofs.AndExact.{target_t-exact, target_other-exact, pin_p-exact, pin_other-exact}
+use Rattle.sr_model.proofs.lemmas.Cells.{cell_eq, cell_cases, cell_eq-itself}
+use Rattle.sr_model.proofs.lemmas.AndRules.{bit_cases, target_t-exact, target_other-exact, pin_p-exact, pin_other-exact}
 use Rattle.unroll.specs.declared.words.PinWord.{PinWord}
 use Rattle.unroll.specs.Bits.{is_set, word_for}
 use Rattle.gate_rules.specs.Lanes.{IsLane}

@@ -4,7 +4,7 @@ use Rattle.std.proofs.lemmas.Bool.{cases_eq, cases_lt}
 use Rattle.std.proofs.lemmas.List.{get_or-set_same, get_or-set_other, get_or_past}
 use Rattle.unroll.specs.declared.words.PinWord.{PinWord}
 use Rattle.unroll.specs.Bits.{is_set, word_for}
-use Rattle.unroll.proofs.WordBits.{is_set_zero}
+use Rattle.unroll.proofs.lemmas.Words.{is_set_zero}
 use Rattle.gate_rules.specs.Lanes.{words_at}
 
 abbrev none : PinWord

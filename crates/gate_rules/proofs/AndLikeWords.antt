@@ -2,7 +2,7 @@
 use Rattle.std.proofs.Common.{ℕ, ◌≡◌, ◌<◌, ◌^◌, ◌&&◌, ◌||◌, false, not, bit_and, bit_or}
 use Rattle.std.specs.Int.{bit_not, w64}
 use Rattle.unroll.specs.Bits.{is_set}
-use Rattle.unroll.proofs.WordBits.{is_set_or, is_set_and, is_set_not, is_set_zero}
+use Rattle.unroll.proofs.lemmas.Words.{is_set_or, is_set_and, is_set_not, is_set_zero}
 
 pub either_set : (a b i : ℕ) → is_set (bit_or a b) i ≡ (is_set a i || is_set b i)
 either_set a b i = is_set_or a b i

@@ -3,7 +3,7 @@ use Rattle.std.proofs.Common.{ℕ, ◌≡◌, ◌<◌, ◌^◌, true, eqb, arith
 use Rattle.std.proofs.lemmas.Bool.{cases_eq, lt-ltb, true≢false}
 use Rattle.std.proofs.lemmas.Nat.Bits.{bit_at-pow_same, bit_at-pow_other}
 use Rattle.unroll.specs.Bits.{is_set}
-use Rattle.unroll.proofs.Masks.{full}
+use Rattle.unroll.proofs.lemmas.Words.{full}
 
 pub each_set : (i : ℕ) → i < 64 → is_set 18446744073709551615 i ≡ true
 each_set i h = full 64 i (omega arith) h ∙ lt-ltb i 64 h

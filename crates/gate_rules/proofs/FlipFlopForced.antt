@@ -12,17 +12,16 @@ use Rattle.sr_model.specs.declared.cells.Place.{Place}
 use Rattle.sr_model.specs.AndLike.{IsAndLike}
 use Rattle.sr_model.specs.Netlist.{Driver, Input, Driven, Instance, cell_at, delay}
 use Rattle.sr_model.specs.Closure.{Forces, passing, lit}
-use Rattle.sr_model.proofs.Instances.{Stands, stands, stands-at, instance_of}
-use Rattle.sr_model.proofs.Members.{not_in_nil, Contains-here, Contains-cases}
-use Rattle.sr_model.proofs.Rows.{cell_eq, cell_eq-itself}
-use Rattle.sr_model.proofs.AndExact.{target_t-exact, target_other-exact, pin_p-exact, pin_other-exact}
-use Rattle.sr_model.proofs.Families.{dff_family}
-use Rattle.sr_model.proofs.OddPins.{dff_apart}
+use Rattle.sr_model.proofs.lemmas.Instances.{Stands, stands, stands-at, instance_of}
+use Rattle.sr_model.proofs.lemmas.Members.{not_in_nil, Contains-here, Contains-cases}
+use Rattle.sr_model.proofs.lemmas.Cells.{cell_eq, cell_eq-itself}
+use Rattle.sr_model.proofs.lemmas.AndRules.{target_t-exact, target_other-exact, pin_p-exact, pin_other-exact, dff_family}
+use Rattle.sr_model.proofs.lemmas.ParityRules.{dff_apart}
 use Rattle.netlist.specs.Wiring.{driver_at, is_flip_flop, HasPinCount}
 use Rattle.unroll.specs.Bits.{is_set}
 use Rattle.unroll.specs.Problem.{Unrolling, unrolled, IsProblem, signals_in, chunks_in}
 use Rattle.unroll.specs.Tasks.{task_at}
-use Rattle.unroll.proofs.BlockNumbers.{block-sig, block-chunk}
+use Rattle.unroll.proofs.lemmas.Blocks.{block-sig, block-chunk}
 use Rattle.gate_rules.specs.Forced.{ForcedInCycles}
 use Rattle.gate_rules.specs.FlipFlopBits.{data_pin}
 

@@ -4,7 +4,7 @@ use Rattle.std.proofs.lemmas.Bool.{cases_lt, cases_eq, cond-true, cond-false, lt
 use Rattle.unroll.specs.declared.problem.Block.{Block}
 use Rattle.unroll.specs.declared.words.PinWord.{PinWord}
 use Rattle.unroll.specs.Bits.{is_set}
-use Rattle.unroll.proofs.WordBits.{is_set_or, is_set_and, is_set_shl_low, is_set_shl_high, is_set_shr, is_set_above}
+use Rattle.unroll.proofs.lemmas.Words.{is_set_or, is_set_and, is_set_shl_low, is_set_shl_high, is_set_shr, is_set_above}
 use Rattle.gate_rules.specs.Forced.{words_of}
 use Rattle.gate_rules.specs.declared.flip_flops.CellBlocks.{CellBlocks}
 use Rattle.gate_rules.specs.FlipFlopBits.{is_set_after, is_shared, is_bit_of}

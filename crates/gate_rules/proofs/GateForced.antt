@@ -14,17 +14,17 @@ use Rattle.sr_model.specs.AndLike.{IsAndLike}
 use Rattle.sr_model.specs.XorLike.{IsXorLike, is_odd}
 use Rattle.sr_model.specs.Netlist.{Driven, Instance, cell_at, cells_of, delay}
 use Rattle.sr_model.specs.Closure.{Forces, passing, lit}
-use Rattle.sr_model.proofs.Instances.{Stands, stands, stands-at, instance_of}
-use Rattle.sr_model.proofs.Members.{Contains-cases}
-use Rattle.sr_model.proofs.OddPins.{in_cycle}
+use Rattle.sr_model.proofs.lemmas.Instances.{Stands, stands, stands-at, instance_of}
+use Rattle.sr_model.proofs.lemmas.Members.{Contains-cases}
+use Rattle.sr_model.proofs.lemmas.ParityRules.{in_cycle}
 use Rattle.netlist.specs.Wiring.{driver_at, is_gate, pin_parities, signals_of}
 use Rattle.unroll.specs.declared.problem.Block.{Block}
 use Rattle.unroll.specs.declared.words.PinWord.{PinWord}
 use Rattle.unroll.specs.Bits.{is_set, is_cycle, word_for}
 use Rattle.unroll.specs.Problem.{Unrolling, unrolled, IsProblem, chunks_in, block_at, sig_at, cell_of}
 use Rattle.unroll.specs.Tasks.{blocks_from, task_at}
-use Rattle.unroll.proofs.BlockNumbers.{block-sig, block-chunk}
-use Rattle.unroll.proofs.ConstantTasks.{pin-count}
+use Rattle.unroll.proofs.lemmas.Blocks.{block-sig, block-chunk}
+use Rattle.unroll.proofs.lemmas.Tasks.{pin-count}
 use Rattle.gate_rules.specs.Lanes.{words_at, IsLane}
 use Rattle.gate_rules.specs.Forced.{ForcedInCycles, IsForcedExactlyIn, bit_at_place, lit_at_place, view_has}
 use Rattle.gate_rules.proofs.GateLanes.{gate-delay, lane_place, lane_cells, count, block-here, cell-there, count-cells, two-cells, gate-lane, odd-there}

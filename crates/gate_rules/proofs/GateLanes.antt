@@ -14,21 +14,19 @@ use Rattle.sr_model.specs.Gate.{IsPinCount}
 use Rattle.sr_model.specs.Netlist.{Driver, Input, Driven, cell_at, delay}
 use Rattle.sr_model.specs.Closure.{lit}
 use Rattle.sr_model.specs.XorLike.{is_odd}
-use Rattle.sr_model.proofs.Instances.{instance_of}
-use Rattle.sr_model.proofs.Members.{Contains-map, map-member, list_any-found}
-use Rattle.sr_model.proofs.OddPins.{cells_once, odd_cell-is}
+use Rattle.sr_model.proofs.lemmas.Instances.{instance_of}
+use Rattle.sr_model.proofs.lemmas.Members.{Contains-map, map-member, list_any-found}
+use Rattle.sr_model.proofs.lemmas.ParityRules.{cells_once, odd_cell-is}
 use Rattle.netlist.specs.Wiring.{driver_at, has_signal, is_driven, is_gate, is_flip_flop, is_odd_pin, kind_of, pins_of, pin_parities, reads, signals_below, signals_of}
-use Rattle.netlist.proofs.OwnPin.{own_pin}
+use Rattle.netlist.proofs.lemmas.Signals.{own_pin}
 use Rattle.unroll.specs.declared.problem.Block.{Block}
 use Rattle.unroll.specs.declared.words.PinWord.{PinWord}
 use Rattle.unroll.specs.Bits.{is_set, is_cycle, word_for}
 use Rattle.unroll.specs.Problem.{Unrolling, IsProblem, signals_in, chunks_in, block_at, sig_at}
 use Rattle.unroll.specs.Tasks.{blocks_for, blocks_from}
-use Rattle.unroll.proofs.BlockNumbers.{block-sig}
-use Rattle.unroll.proofs.ConstantTasks.{pin-count}
-use Rattle.unroll.proofs.FlatMaps.{signals-ascend}
-use Rattle.unroll.proofs.TaskBlocks.{blocks-ascend, has-itself, listed-signal, signal-block, signal-listed}
-use Rattle.unroll.proofs.TaskCells.{delay-cases, pin-signal, pins-within}
+use Rattle.unroll.proofs.lemmas.Blocks.{block-sig}
+use Rattle.unroll.proofs.lemmas.Tasks.{pin-count, blocks-ascend, has-itself, listed-signal, signal-block, signal-listed, delay-cases, pin-signal, pins-within}
+use Rattle.unroll.proofs.lemmas.FlatMaps.{signals-ascend}
 use Rattle.gate_rules.specs.Lanes.{words_at, IsLane}
 use Rattle.gate_rules.specs.Forced.{words_of, view_has}
 use Rattle.gate_rules.proofs.BlockPlaces.{words_of-place, flat_map-single}

@@ -6,8 +6,8 @@ use Rattle.sr_model.specs.AndLike.{IsAndLike}
 use Rattle.sr_model.specs.Gate.{value}
 use Rattle.sr_model.specs.Netlist.{Instance}
 use Rattle.sr_model.specs.XorLike.{IsXorLike}
-use Rattle.sr_model.proofs.AndKinds.{and_is, nand_is, or_gate_is, nor_is, not_is, buf_is, dff_is}
-use Rattle.sr_model.proofs.XorLike.{xor_is, xnor_is}
+use Rattle.sr_model.proofs.lemmas.AndRules.{and_is, nand_is, or_gate_is, nor_is, not_is, buf_is, dff_is}
+use Rattle.sr_model.proofs.lemmas.ParityRules.{xor_is, xnor_is}
 
 pub xor_kind : (i : Instance) → i.kind ≡ Xor → IsXorLike false i
 xor_kind i e w = ap (λ kind. value kind (map w i.pins)) e ∙ xor_is i.target i.pins w

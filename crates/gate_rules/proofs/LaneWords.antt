@@ -4,7 +4,7 @@ use Rattle.std.proofs.lemmas.Bool.Decides.{nat_tests}
 use mathlib.Core.Bool.{beq}
 use Rattle.sr_model.specs.XorLike.{plus}
 use Rattle.unroll.specs.Bits.{is_set}
-use Rattle.unroll.proofs.WordBits.{is_set_or, is_set_and, is_set_not, is_set_xor, is_set_zero, differ}
+use Rattle.unroll.proofs.lemmas.Words.{is_set_or, is_set_and, is_set_not, is_set_xor, is_set_zero, differ}
 
 pub set_or : (a b lane : ℕ) (x y : Bool) → is_set a lane ≡ x → is_set b lane ≡ y → is_set (bit_or a b) lane ≡ (x || y)
 set_or a b lane x y e f = is_set_or a b lane ∙ ap (λ z. z || is_set b lane) e ∙ ap (λ z. x || z) f

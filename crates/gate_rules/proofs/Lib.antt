@@ -1,19 +1,20 @@
-pub mod AndLikeForced
-pub mod AndLikeSet
-pub mod AndLikeWords
-pub mod BlockPlaces
-pub mod CycleMasks
-pub mod Counting
-pub mod FlipFlopBlocks
-pub mod FlipFlopForced
-pub mod FlipFlopWords
-pub mod GateForced
-pub mod GateLanes
-pub mod KindRules
-pub mod LaneWords
-pub mod NewLiterals
-pub mod OddWords
-pub mod ParityExact
-pub mod SettledOnce
-pub mod TaskForcing
-pub mod TaskViews
+mod AndLikeForced
+mod AndLikeSet
+mod AndLikeWords
+mod BlockPlaces
+mod CycleMasks
+mod Counting
+mod FlipFlopBlocks
+mod FlipFlopForced
+mod FlipFlopWords
+mod GateForced
+mod GateLanes
+mod KindRules
+mod LaneWords
+mod NewLiterals
+mod OddWords
+mod ParityExact
+mod SettledOnce
+mod TaskForcing
+mod TaskViews
+pub mod lemmas

@@ -6,7 +6,7 @@ use Rattle.std.proofs.lemmas.Nat.{xor_lt}
 use mathlib.Core.Bool.{beq}
 use Rattle.unroll.specs.declared.words.PinWord.{PinWord}
 use Rattle.unroll.specs.Bits.{is_set, word_for}
-use Rattle.unroll.proofs.WordBits.{is_set_zero, is_set_and}
+use Rattle.unroll.proofs.lemmas.Words.{is_set_zero, is_set_and}
 use Rattle.gate_rules.specs.declared.parity.OddBits.{OddBits}
 use Rattle.gate_rules.specs.OddPlaces.{has_none, has_both, ones_parity, others_known, others_both, others_value, settles, IsOddBits}
 use Rattle.gate_rules.proofs.LaneWords.{set_or, set_and, set_not, set_xor, set_all, plus_comm, beq_one, beq_zero, once_step, twice_step, none_else, one_else}

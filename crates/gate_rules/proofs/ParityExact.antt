@@ -10,13 +10,9 @@ use Rattle.sr_model.specs.declared.cells.Lit.{Lit}
 use Rattle.sr_model.specs.Netlist.{Instance, cells_of}
 use Rattle.sr_model.specs.Closure.{Forces, passing, lit}
 use Rattle.sr_model.specs.XorLike.{plus, parity, is_odd, IsXorLike}
-use Rattle.sr_model.proofs.Members.{Contains-here, Contains-there, Contains-cases, Contains-map, map-member, All-from_Contains, list_all-at, list_all-fails}
-use Rattle.sr_model.proofs.Rows.{cell_eq, cell_cases, cell_eq-itself}
-use Rattle.sr_model.proofs.OddCells.{target_odd, pin_odd, AreOdd}
-use Rattle.sr_model.proofs.OddCounts.{is_open, CountsForce, count_without, without, xor_counts}
-use Rattle.sr_model.proofs.XorLike.{XorForces, is_odd-member}
-use Rattle.sr_model.proofs.XorExact.{xor_even-exact, xor_odd-exact}
-use Rattle.sr_model.proofs.XorChoice.{both_known, known_bit, no_others, xor_lone-exact}
+use Rattle.sr_model.proofs.lemmas.Members.{Contains-here, Contains-there, Contains-cases, Contains-map, map-member, All-from_Contains, list_all-at, list_all-fails}
+use Rattle.sr_model.proofs.lemmas.Cells.{cell_eq, cell_cases, cell_eq-itself}
+use Rattle.sr_model.proofs.lemmas.ParityRules.{target_odd, pin_odd, AreOdd, is_open, CountsForce, count_without, without, xor_counts, XorForces, is_odd-member, xor_even-exact, xor_odd-exact, both_known, known_bit, no_others, xor_lone-exact}
 use Rattle.unroll.specs.declared.words.PinWord.{PinWord}
 use Rattle.unroll.specs.Bits.{is_set, word_for}
 use Rattle.gate_rules.specs.Lanes.{words_at, IsLane}

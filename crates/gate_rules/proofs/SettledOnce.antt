@@ -8,8 +8,8 @@ use Rattle.sr_model.specs.declared.cells.Lit.{Lit}
 use Rattle.sr_model.specs.declared.cells.Place.{Place}
 use Rattle.sr_model.specs.Netlist.{Unrolled, Instance, instance_at, cells_of, Valuation, IsRow, Has, Agrees}
 use Rattle.sr_model.specs.Closure.{LitSet, Forces, ForcesAt, passing, lit}
-use Rattle.sr_model.proofs.Members.{All-from_Contains, Contains-map, map-member, filter-member, filter-passes, filter-has}
-use Rattle.sr_model.proofs.AndLike.{bit_cases}
+use Rattle.sr_model.proofs.lemmas.Members.{All-from_Contains, Contains-map, map-member, filter-member, filter-passes, filter-has}
+use Rattle.sr_model.proofs.lemmas.AndRules.{bit_cases}
 
 -- both literals of each cell
 abbrev lits_of : List Cell → List Lit

@@ -7,12 +7,11 @@ use Rattle.sr_model.specs.declared.cells.Lit.{Lit}
 use Rattle.sr_model.specs.declared.cells.Place.{Place}
 use Rattle.sr_model.specs.Netlist.{cells_of}
 use Rattle.sr_model.specs.Closure.{ForcesAt, HasBoth, IsClosed, passing, lit}
-use Rattle.sr_model.proofs.Members.{All-from_Contains}
+use Rattle.sr_model.proofs.lemmas.Members.{All-from_Contains}
 use Rattle.unroll.specs.declared.problem.Task.{Task}
 use Rattle.unroll.specs.Problem.{Unrolling, unrolled}
 use Rattle.unroll.specs.Tasks.{IsTask, IsPlaceOf, IsCellOf, drives_itself, target_of, task_of}
-use Rattle.unroll.proofs.SharedCells.{share_no_cell}
-use Rattle.unroll.proofs.TaskCells.{each_in_one_task}
+use Rattle.unroll.proofs.lemmas.Tasks.{share_no_cell, each_in_one_task}
 use Rattle.gate_rules.specs.Forced.{ForcedIn, ForcedInCycles, IsDone}
 use Rattle.gate_rules.proofs.CycleMasks.{alone_set, alone_only}
 use Rattle.gate_rules.proofs.NewLiterals.{forced-in_time}

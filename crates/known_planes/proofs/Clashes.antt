@@ -13,8 +13,8 @@ use Rattle.sr_model.specs.Closure.{HasBoth, IsLeastClash}
 use Rattle.unroll.specs.declared.words.PinWord.{PinWord}
 use Rattle.unroll.specs.Bits.{is_set, word_for}
 use Rattle.unroll.specs.Problem.{Unrolling, signals_in, chunks_in, block_at, block_of, bit_of}
-use Rattle.unroll.proofs.WordBits.{is_set_or, is_set_and, is_set_zero}
-use Rattle.unroll.proofs.BlockNumbers.{block-chunk, block-within, cycle-chunk}
+use Rattle.unroll.proofs.lemmas.Words.{is_set_or, is_set_and, is_set_zero}
+use Rattle.unroll.proofs.lemmas.Blocks.{block-chunk, block-within, cycle-chunk}
 use Rattle.known_planes.specs.Planes.{PlaneSet, no_bits, words_at, pair_in, lits, IsOf}
 use Rattle.known_planes.specs.Clash.{has_both_at}
 

@@ -5,14 +5,14 @@ use Rattle.std.proofs.lemmas.Bool.{true≢false}
 use Rattle.std.proofs.lemmas.List.Sums.{sum_by-le, count_by-le-length}
 use Rattle.std.proofs.lemmas.List.FromFn.{length-range_with_len}
 use Rattle.netlist.specs.Wiring.{signals_below}
-use Rattle.netlist.proofs.Marks.{signals_member, signals_within}
+use Rattle.netlist.proofs.lemmas.Signals.{signals_member, signals_within}
 use Rattle.sr_model.specs.declared.cells.Sig.{Sig}
 use Rattle.sr_model.specs.Netlist.{cell_at}
 use Rattle.sr_model.specs.Closure.{lit}
 use Rattle.unroll.specs.declared.words.PinWord.{PinWord}
 use Rattle.unroll.specs.Bits.{is_set}
 use Rattle.unroll.specs.Problem.{signals_in}
-use Rattle.unroll.proofs.ConstantTasks.{chunk-listed}
+use Rattle.unroll.proofs.lemmas.Tasks.{chunk-listed}
 use Rattle.known_planes.specs.Planes.{PlaneSet, has, no_bits}
 use Rattle.known_planes.specs.Counts.{bits_in, bits_of_both, literal_bits_at, literals_of, cells_where}
 use Rattle.known_planes.specs.Laws.{LiteralsByBlock, MoreLiteralsCountMore, LiteralsAreBits}

@@ -13,8 +13,8 @@ use Rattle.dump_reader.specs.Recording.{bit_of}
 use Rattle.unroll.specs.declared.words.PinWord.{PinWord}
 use Rattle.unroll.specs.Bits.{is_set, word_for}
 use Rattle.unroll.specs.Problem.{Unrolling, signals_in, chunks_in, block_at, block_of, chunk_at, bit_of as bit_in, HasNoLaterBit}
-use Rattle.unroll.proofs.WordBits.{is_set_or}
-use Rattle.unroll.proofs.BlockNumbers.{block-chunk, block-within, cycle-chunk}
+use Rattle.unroll.proofs.lemmas.Words.{is_set_or}
+use Rattle.unroll.proofs.lemmas.Blocks.{block-chunk, block-within, cycle-chunk}
 use Rattle.known_planes.specs.Planes.{PlaneSet, words_at, with_words, has, joined, IsOf}
 use Rattle.known_planes.proofs.DumpWords.{no-bit-past, chunk-cell}
 use Rattle.known_planes.proofs.Members.{has-there, has-elsewhere}

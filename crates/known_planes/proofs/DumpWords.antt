@@ -14,7 +14,7 @@ use Rattle.dump_reader.specs.declared.dump.Tri.TheVariants.{Zero, One, X}
 use Rattle.dump_reader.specs.Recording.{bit_of}
 use Rattle.unroll.specs.declared.words.PinWord.{PinWord}
 use Rattle.unroll.specs.Bits.{is_set, word_for}
-use Rattle.unroll.proofs.WordBits.{is_set_or, is_set_zero}
+use Rattle.unroll.proofs.lemmas.Words.{is_set_or, is_set_zero}
 use Rattle.known_planes.specs.Planes.{no_bits}
 
 -- the words have the bits of the first k cells

@@ -1,10 +1,11 @@
-pub mod Layouts
-pub mod Members
-pub mod BitCounts
-pub mod Sums
-pub mod DumpWords
-pub mod DumpRows
-pub mod Clashes
-pub mod RowCounts
-pub mod PlanesLaws
-pub mod CountLaws
+mod Layouts
+mod Members
+mod BitCounts
+mod Sums
+mod DumpWords
+mod DumpRows
+mod Clashes
+mod RowCounts
+mod PlanesLaws
+mod CountLaws
+pub mod lemmas

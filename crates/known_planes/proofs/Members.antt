@@ -13,8 +13,8 @@ use Rattle.unroll.specs.declared.problem.Block.{Block}
 use Rattle.unroll.specs.declared.words.PinWord.{PinWord}
 use Rattle.unroll.specs.Bits.{is_set, is_cycle, word_for}
 use Rattle.unroll.specs.Problem.{Unrolling, signals_in, chunks_in, blocks_in, block_at, block_of, chunk_at, bit_of, HasNoLaterBit}
-use Rattle.unroll.proofs.WordBits.{is_set_zero, is_set_and}
-use Rattle.unroll.proofs.BlockNumbers.{block-chunk, block-within, cycle-chunk}
+use Rattle.unroll.proofs.lemmas.Words.{is_set_zero, is_set_and}
+use Rattle.unroll.proofs.lemmas.Blocks.{block-chunk, block-within, cycle-chunk}
 use Rattle.known_planes.specs.Planes.{PlaneSet, no_bits, words_at, with_words, pair_in, has, IsOf}
 use Rattle.known_planes.specs.Layout.{words_from, pair_of, IsLaidOut}
 use Rattle.known_planes.proofs.Layouts.{over, words-size, words-by-number}

@@ -7,8 +7,8 @@ use Rattle.std.specs.Prelude.{nat_lt}
 use Rattle.unroll.specs.declared.words.PinWord.{PinWord}
 use Rattle.unroll.specs.Bits.{is_set, word_for}
 use Rattle.unroll.specs.Problem.{signals_in, chunks_in, blocks_in, block_of, sig_at, chunk_at, bit_of}
-use Rattle.unroll.proofs.BlockNumbers.{block-itself, block-within, chunk-within, cycle-chunk, sig-within, some_chunk}
-use Rattle.unroll.proofs.WordBits.{is_set_zero}
+use Rattle.unroll.proofs.lemmas.Blocks.{block-itself, block-within, chunk-within, cycle-chunk, sig-within, some_chunk}
+use Rattle.unroll.proofs.lemmas.Words.{is_set_zero}
 use Rattle.known_planes.specs.Planes.{no_bits, words_at, with_words}
 use Rattle.known_planes.specs.Laws.{BitsAreLiterals, LiteralsAreOfCells, NewWordsAreLiterals, OtherLiteralsStay}
 use Rattle.known_planes.proofs.Clashes.{in-block}

@@ -8,15 +8,15 @@ use Rattle.std.proofs.lemmas.List.Sums.{sum_by_push, count_by-le-length, length-
 use Rattle.std.proofs.lemmas.List.{take_more}
 use Rattle.std.proofs.lemmas.List.FromFn.{sum_by-map-range_with_len_more, length-map-range_with_len}
 use Rattle.netlist.specs.Wiring.{driver_at, is_flip_flop, flip_flops, signals_below}
-use Rattle.netlist.proofs.Marks.{signals_within}
+use Rattle.netlist.proofs.lemmas.Signals.{signals_within}
 use Rattle.sr_model.specs.declared.cells.Sig.{Sig}
 use Rattle.sr_model.specs.Netlist.{Driver, cell_at}
 use Rattle.sr_model.specs.Closure.{lit}
 use Rattle.unroll.specs.declared.words.PinWord.{PinWord}
 use Rattle.unroll.specs.Bits.{is_set, word_for}
 use Rattle.unroll.specs.Problem.{Unrolling, signals_in, chunks_in, block_at}
-use Rattle.unroll.proofs.WordBits.{is_set_or}
-use Rattle.unroll.proofs.BlockNumbers.{block-chunk, block-within}
+use Rattle.unroll.proofs.lemmas.Words.{is_set_or}
+use Rattle.unroll.proofs.lemmas.Blocks.{block-chunk, block-within}
 use Rattle.known_planes.specs.Planes.{PlaneSet, no_bits, words_at, pair_in, has, IsOf}
 use Rattle.known_planes.specs.Counts.{bits_in, is_known, cells_where, known_count, literals_of, literal_count, known_bits_at, literal_bits_at}
 use Rattle.known_planes.proofs.Sums.{sum-agree, sum-moved, sum-parts, sum-more, sum-none, sum-agree_on, sum-turned, two-sums}

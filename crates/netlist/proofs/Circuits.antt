@@ -7,7 +7,7 @@ use Rattle.std.proofs.lemmas.List.Elements.{All-map, All-nil, All-contains, Cont
 use Rattle.sr_model.specs.declared.cells.Sig.{Sig}
 use Rattle.sr_model.specs.Declaration.{Declaration, InputNamed, OutputNamed, DriverNamed}
 use Rattle.sr_model.specs.Netlist.{Driver, Input}
-use Rattle.sr_model.proofs.Members.{not_in_nil, All-from_Contains, Contains-here, Contains-there, Contains-cases, Contains-map}
+use Rattle.sr_model.proofs.lemmas.Members.{not_in_nil, All-from_Contains, Contains-here, Contains-there, Contains-cases, Contains-map}
 use Rattle.netlist.specs.Numbering.{once, mentions, input_name, output_name, driven_name, pin_names, names_of, place_in, sig_of, inputs_of, outputs_of, drives, stated_driver, driver_by, driver_for, drivers_of, IsSignalName, HasPinCount, IsStatement}
 use Rattle.netlist.specs.Wiring as wiring
 use Rattle.netlist.specs.Wiring.{driver_at, IsWired}

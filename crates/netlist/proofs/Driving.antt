@@ -15,7 +15,7 @@ use Rattle.sr_model.specs.declared.cells.Sig.{Sig}
 use Rattle.sr_model.specs.declared.statements.Numbered.{Numbered}
 use Rattle.sr_model.specs.Declaration.{Declaration, InputNamed, OutputNamed, DriverNamed}
 use Rattle.sr_model.specs.Netlist.{Driver}
-use Rattle.sr_model.proofs.Members.{map-agree}
+use Rattle.sr_model.proofs.lemmas.Members.{map-agree}
 use Rattle.netlist.specs.declared.wiring.Node.{Node}
 use Rattle.netlist.specs.Numbering.{driven_name, drives, pin_names, place_in, sig_in, stated_driver}
 use Rattle.netlist.specs.Nodes.{driver_of, driver_by, IsNodeWithin}

@@ -1,34 +1,35 @@
-pub mod Circuits
-pub mod Driving
-pub mod EachItem
-pub mod FewSignals
-pub mod FlatArrays
-pub mod FlipFlopList
-pub mod Levels
-pub mod LoopFound
-pub mod Marks
-pub mod MentionSigs
-pub mod NetlistOrRefused
-pub mod OddPins
-pub mod Once
-pub mod OneItem
-pub mod OneRefusal
-pub mod OtherReaders
-pub mod Outputs
-pub mod OwnPin
-pub mod PinCounts
-pub mod PinSignals
-pub mod Places
-pub mod Placing
-pub mod Progress
-pub mod Ranking
-pub mod ListCounts
-pub mod ListParts
-pub mod ListStarts
-pub mod ListBounds
-pub mod Refusals
-pub mod Settling
-pub mod SignalLists
-pub mod Statements
-pub mod Texts
-pub mod Walks
+mod Circuits
+mod Driving
+mod EachItem
+mod FewSignals
+mod FlatArrays
+mod FlipFlopList
+mod Levels
+mod LoopFound
+mod Marks
+mod MentionSigs
+mod NetlistOrRefused
+mod OddPins
+mod Once
+mod OneItem
+mod OneRefusal
+mod OtherReaders
+mod Outputs
+mod OwnPin
+mod PinCounts
+mod PinSignals
+mod Places
+mod Placing
+mod Progress
+mod Ranking
+mod ListCounts
+mod ListParts
+mod ListStarts
+mod ListBounds
+mod Refusals
+mod Settling
+mod SignalLists
+mod Statements
+mod Texts
+mod Walks
+pub mod lemmas

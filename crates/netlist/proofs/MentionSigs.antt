@@ -9,7 +9,7 @@ use Rattle.std.proofs.lemmas.List.Elements.{Contains-append_left, Contains-appen
 use Rattle.sr_model.specs.declared.cells.Sig.{Sig}
 use Rattle.sr_model.specs.declared.statements.Numbered.{Numbered}
 use Rattle.sr_model.specs.Declaration.{Declaration, InputNamed, OutputNamed, DriverNamed}
-use Rattle.sr_model.proofs.Members.{not_in_nil, Contains-here, Contains-cases, map-agree}
+use Rattle.sr_model.proofs.lemmas.Members.{not_in_nil, Contains-here, Contains-cases, map-agree}
 use Rattle.netlist.specs.Numbering.{once, mentions, driven_name, names_of, pin_names, sig_in}
 use Rattle.netlist.specs.Mentions.{first_mention}
 use Rattle.netlist.proofs.Once.{once-once}

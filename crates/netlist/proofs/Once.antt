@@ -7,7 +7,7 @@ use Rattle.std.proofs.lemmas.Bool.{cases_Bool, cond-true, cond-false, true≢fal
 use Rattle.std.proofs.lemmas.List.{append-nil, length-append, map-append}
 use Rattle.std.proofs.lemmas.List.Elements.{filter-append, Contains-get_or, Contains-push}
 use Rattle.std.proofs.lemmas.Slice.Eq.{bytes_eq-Decides}
-use Rattle.sr_model.proofs.Members.{list_any-from, list_any-found}
+use Rattle.sr_model.proofs.lemmas.Members.{list_any-from, list_any-found}
 use Rattle.netlist.specs.Numbering.{once}
 
 abbrev pub has : List (List ℕ) → List ℕ → Bool

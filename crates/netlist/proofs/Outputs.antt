@@ -3,7 +3,7 @@ use Rattle.std.proofs.Common.{◌≡◌, ℕ, Bool, true, false, List, [], ◌�
 use Rattle.std.specs.List.{Contains}
 use Rattle.std.proofs.lemmas.List.{map-append}
 use Rattle.sr_model.specs.declared.cells.Sig.{Sig}
-use Rattle.sr_model.proofs.Members.{map-agree}
+use Rattle.sr_model.proofs.lemmas.Members.{map-agree}
 use Rattle.netlist.specs.Numbering.{once, place_in}
 use Rattle.netlist.proofs.Once.{has, has-push_same, has-push_other, has-push_present, once-push_present, once-push_absent, IsApart}
 use Rattle.netlist.proofs.Places.{set-map_place, get_or-map_place}

@@ -3,7 +3,7 @@ use Rattle.std.proofs.Common.{◌≡◌, List, [], ◌∷◌, true, inl, inr, su
 use Rattle.std.specs.List.{Contains}
 use Rattle.sr_model.specs.declared.cells.Sig.{Sig}
 use Rattle.sr_model.specs.Netlist.{Driver}
-use Rattle.sr_model.proofs.Members.{not_in_nil, Contains-here, Contains-cases}
+use Rattle.sr_model.proofs.lemmas.Members.{not_in_nil, Contains-here, Contains-cases}
 use Rattle.netlist.specs.Wiring.{driver_at, pins_of, is_gate}
 use Rattle.netlist.specs.Loops.{HasNoLoop}
 

@@ -4,7 +4,7 @@ use Rattle.std.proofs.lemmas.Bool.{cases_Bool, eqb-true, true≢false}
 use Rattle.std.proofs.lemmas.List.{length-map}
 use Rattle.std.proofs.lemmas.List.Elements.{All-contains, All-filter, All-get_or}
 use Rattle.std.proofs.lemmas.Map.Views.{any-filter_same}
-use Rattle.sr_model.proofs.Members.{list_any-found}
+use Rattle.sr_model.proofs.lemmas.Members.{list_any-found}
 use Rattle.std.specs.List.{All}
 use Rattle.sr_model.specs.declared.cells.Sig.{Sig}
 use Rattle.sr_model.specs.Netlist.{Driver, Input}

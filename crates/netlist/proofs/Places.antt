@@ -8,7 +8,7 @@ use Rattle.std.proofs.lemmas.List.{append-nil, append_assoc, length-append, leng
 use Rattle.std.proofs.lemmas.List.Elements.{Contains-append_left}
 use Rattle.std.proofs.lemmas.Option.{cond_some, slice_get-get_or}
 use Rattle.std.proofs.lemmas.Slice.Eq.{bytes_eq-Decides}
-use Rattle.sr_model.proofs.Members.{not_in_nil, Contains-cases, map-agree}
+use Rattle.sr_model.proofs.lemmas.Members.{not_in_nil, Contains-cases, map-agree}
 use Rattle.std.specs.Prelude.{IfSome, slice_get}
 use Rattle.std.specs.Option.{SomeIff}
 use Rattle.sr_model.specs.declared.cells.Sig.{Sig}

@@ -10,7 +10,7 @@ use Rattle.sr_model.specs.declared.cells.Sig.{Sig}
 use Rattle.sr_model.specs.Declaration.{Declaration, InputNamed, OutputNamed, DriverNamed}
 use Rattle.sr_model.specs.Gate.{IsPinCount}
 use Rattle.sr_model.specs.Netlist.{Driver, Input}
-use Rattle.sr_model.proofs.Members.{All-from_Contains, Contains-here, Contains-there}
+use Rattle.sr_model.proofs.lemmas.Members.{All-from_Contains, Contains-here, Contains-there}
 use Rattle.netlist.specs.declared.checks.NetRefusal.{NetRefusal}
 use Rattle.netlist.specs.declared.checks.NetRefusal.TheVariants.{TooManySignals, TooManyPins, TwoDrivers, NoDriver, Loop, NoMemory}
 use Rattle.netlist.specs.declared.wiring.Node.{Node}

@@ -15,7 +15,7 @@ use Rattle.sr_model.specs.declared.gates.Kind.{Kind}
 use Rattle.sr_model.specs.declared.gates.Kind.TheVariants.{Not, Buf, Dff}
 use Rattle.sr_model.specs.declared.statements.Statement.{Statement}
 use Rattle.sr_model.specs.declared.statements.Statement.TheVariants.{Input, OutputOf, Drive}
-use Rattle.sr_model.proofs.Members.{not_in_nil, Contains-here, Contains-there, Contains-cases, All-from_Contains}
+use Rattle.sr_model.proofs.lemmas.Members.{not_in_nil, Contains-here, Contains-there, Contains-cases, All-from_Contains}
 use Rattle.netlist.specs.Numbering.{once, mentions, input_name, output_name, driven_name, pin_names, names_of, HasPinCount, IsSignalName, IsStatement}
 use Rattle.netlist.specs.Checks.{without_lines, FirstBreaksAt}
 use Rattle.netlist.proofs.Once.{has, has-once, has-from_Contains, Contains-from_has, once-append_once}

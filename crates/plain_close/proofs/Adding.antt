@@ -4,22 +4,22 @@ use Rattle.std.proofs.lemmas.Bool.{cases_lt, and_parts, or_cases, or_left, or_ri
 use Rattle.sr_model.specs.declared.cells.Sig.{Sig}
 use Rattle.sr_model.specs.declared.cells.Lit.{Lit}
 use Rattle.sr_model.specs.Closure.{Closure, SameLits, lit, passing, LitSet}
-use Rattle.sr_model.proofs.ClosureLaws.{monotone, has_base, forced_between, closed_between}
+use Rattle.sr_model.proofs.lemmas.Laws.{monotone, has_base, forced_between, closed_between}
 use Rattle.unroll.specs.declared.problem.Block.{Block}
 use Rattle.unroll.specs.declared.words.PinWord.{PinWord}
 use Rattle.unroll.specs.Bits.{is_set, is_cycle, word_for}
 use Rattle.unroll.specs.Problem.{Unrolling, unrolled, IsProblem, signals_in, chunks_in, block_at, block_of, bit_of, HasNoLaterBit}
 use Rattle.unroll.specs.Tasks.{constant_tasks}
 use Rattle.unroll.specs.Laws.{ForcesFromNothing}
-use Rattle.unroll.proofs.BlockNumbers.{cycle-chunk, block-chunk, block-within}
-use Rattle.unroll.proofs.WordBits.{is_set_and}
-use Rattle.unroll.proofs.ConstantTasks.{force_from_nothing}
+use Rattle.unroll.proofs.lemmas.Blocks.{cycle-chunk, block-chunk, block-within}
+use Rattle.unroll.proofs.lemmas.Words.{is_set_and}
+use Rattle.unroll.proofs.lemmas.Tasks.{force_from_nothing}
 use Rattle.gate_rules.specs.Forced.{ForcedIn}
 use Rattle.known_planes.specs.Planes.{PlaneSet, has, lits, words_at, IsOf}
-use Rattle.known_planes.proofs.PlanesLaws.{literals_are_of_cells}
+use Rattle.known_planes.proofs.lemmas.Laws.{literals_are_of_cells}
 use Rattle.plain_close.specs.Queues.{Waiting, Waits}
 use Rattle.plain_close.specs.Turns.{AreTasksOf, IsSettled, Pushed, Wakes, Joins, Adds, AddsRow, has_bit}
-use Rattle.gate_rules.proofs.TaskForcing.{forced_by_cells}
+use Rattle.gate_rules.proofs.lemmas.Laws.{forced_by_cells}
 use Rattle.plain_close.proofs.Waking.{member-cases}
 use Rattle.plain_close.proofs.Turning.{has-bit_of, bit-has, has-kept}
 

@@ -8,8 +8,8 @@ use Rattle.unroll.specs.declared.problem.Task.{Task}
 use Rattle.unroll.specs.Bits.{is_set, word_for}
 use Rattle.unroll.specs.Problem.{Unrolling, unrolled}
 use Rattle.unroll.specs.Tasks.{IsTask, task_of, task_at, target_of, chunk_of}
-use Rattle.unroll.proofs.BlockNumbers.{task-itself}
-use Rattle.unroll.proofs.TaskCells.{each_in_one_task}
+use Rattle.unroll.proofs.lemmas.Blocks.{task-itself}
+use Rattle.unroll.proofs.lemmas.Tasks.{each_in_one_task}
 use Rattle.gate_rules.specs.Forced.{ForcedIn}
 use Rattle.known_planes.specs.Planes.{PlaneSet, has, lits, words_at}
 use Rattle.plain_close.specs.declared.task_queues.InChunk.{InChunk}

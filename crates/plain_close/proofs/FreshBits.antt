@@ -10,17 +10,17 @@ use Rattle.sr_model.specs.declared.cells.Sig.{Sig}
 use Rattle.sr_model.specs.declared.cells.Cell.{Cell}
 use Rattle.sr_model.specs.declared.cells.Place.{Place}
 use Rattle.sr_model.specs.Netlist.{Driver, Driven, cell_at, delay}
-use Rattle.sr_model.proofs.Members.{Contains-here, Contains-map, filter-has}
+use Rattle.sr_model.proofs.lemmas.Members.{Contains-here, Contains-map, filter-has}
 use Rattle.netlist.specs.Wiring.{driver_at, is_flip_flop, reads, readers, other_readers, signals_below}
-use Rattle.netlist.proofs.Marks.{signals_member}
+use Rattle.netlist.proofs.lemmas.Signals.{signals_member}
 use Rattle.unroll.specs.declared.problem.Task.{Task}
 use Rattle.unroll.specs.declared.words.PinWord.{PinWord}
 use Rattle.unroll.specs.Bits.{is_set, word_for}
 use Rattle.unroll.specs.Problem.{Unrolling, signals_in, bit_of}
 use Rattle.unroll.specs.Tasks.{CellRole, IsCellOf, task_at, task_of}
-use Rattle.unroll.proofs.BlockNumbers.{one-task}
-use Rattle.unroll.proofs.TaskCells.{role, delay-cases, later-chunk, pin-read, target-within}
-use Rattle.unroll.proofs.WordBits.{is_set_or, is_set_xor, differ}
+use Rattle.unroll.proofs.lemmas.Blocks.{one-task}
+use Rattle.unroll.proofs.lemmas.Tasks.{role, delay-cases, later-chunk, pin-read, target-within}
+use Rattle.unroll.proofs.lemmas.Words.{is_set_or, is_set_xor, differ}
 use Rattle.plain_close.specs.Turns.{before_woken, chunk_woken, own_woken, woken_from}
 
 -- where no bit differs, both words have the same

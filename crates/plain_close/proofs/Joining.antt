@@ -7,7 +7,7 @@ use Rattle.std.proofs.lemmas.List.Elements.{All-get_or}
 use Rattle.unroll.specs.declared.problem.Block.{Block}
 use Rattle.unroll.specs.declared.words.PinWord.{PinWord}
 use Rattle.unroll.specs.Problem.{Unrolling, HasNoLaterBit, HaveNoLaterBit, chunk_at}
-use Rattle.unroll.proofs.BlockNumbers.{block-chunk}
+use Rattle.unroll.proofs.lemmas.Blocks.{block-chunk}
 use Rattle.gate_rules.specs.Forced.{bit_at_place}
 use Rattle.gate_rules.specs.Lanes.{words_at}
 use Rattle.known_planes.specs.Planes.{PlaneSet}

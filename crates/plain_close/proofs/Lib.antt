@@ -1,14 +1,14 @@
-pub mod Adding
-pub mod Joining
-pub mod Pushing
-pub mod FreshBits
-pub mod TurnedTasks
-pub mod NoClash
-pub mod NewLits
-pub mod Noting
-pub mod Taking
-pub mod Forcing
-pub mod NextLevels
-pub mod Turning
-pub mod WaitingRows
-pub mod Waking
+mod Adding
+mod Joining
+mod Pushing
+mod FreshBits
+mod TurnedTasks
+mod NoClash
+mod NewLits
+mod Noting
+mod Taking
+mod Forcing
+mod NextLevels
+mod Turning
+mod WaitingRows
+mod Waking

@@ -13,12 +13,10 @@ use Rattle.unroll.specs.declared.problem.Block.{Block}
 use Rattle.unroll.specs.declared.words.PinWord.{PinWord}
 use Rattle.unroll.specs.Bits.{is_set, word_for}
 use Rattle.unroll.specs.Problem.{Unrolling, signals_in, chunks_in, block_at, block_of, bit_of, cell_of}
-use Rattle.unroll.proofs.BlockNumbers.{block-within}
-use Rattle.unroll.proofs.BlockCells.{cell-bit}
-use Rattle.unroll.proofs.WordBits.{differ, is_set_xor, is_set_zero}
+use Rattle.unroll.proofs.lemmas.Blocks.{block-within, cell-bit}
+use Rattle.unroll.proofs.lemmas.Words.{differ, is_set_xor, is_set_zero}
 use Rattle.known_planes.specs.Planes.{PlaneSet, IsOf, has, joined, words_at}
-use Rattle.known_planes.proofs.Clashes.{lowest-bit}
-use Rattle.known_planes.proofs.DumpRows.{joined-bit}
+use Rattle.known_planes.proofs.lemmas.Planes.{lowest-bit, joined-bit}
 use Rattle.plain_close.specs.Turns.{has_bit}
 use Rattle.plain_close.proofs.Turning.{bit-has, has-bit_of}
 

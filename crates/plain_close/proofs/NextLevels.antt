@@ -5,20 +5,20 @@ use Rattle.std.proofs.lemmas.Bool.{cases_lt}
 use Rattle.sr_model.specs.declared.cells.Cell.{Cell}
 use Rattle.sr_model.specs.declared.cells.Lit.{Lit}
 use Rattle.sr_model.specs.Closure.{Closure, ForcesSomewhere, IsClash, IsLeastClash, IsWithin, SameLits, IsClosed, HasBoth, level, lit}
-use Rattle.sr_model.proofs.Members.{not_in_nil, Contains-here}
-use Rattle.sr_model.proofs.ClosureLaws.{ForcesSomewhere-more, least, level-later}
+use Rattle.sr_model.proofs.lemmas.Members.{not_in_nil, Contains-here}
+use Rattle.sr_model.proofs.lemmas.Laws.{ForcesSomewhere-more, least, level-later}
 use Rattle.unroll.specs.declared.problem.Block.{Block}
 use Rattle.unroll.specs.Bits.{is_set, word_for}
 use Rattle.unroll.specs.Problem.{Unrolling, unrolled, block_of, bit_of}
 use Rattle.known_planes.specs.Planes.{PlaneSet, IsOf, has, lits, words_at}
 use Rattle.known_planes.specs.Counts.{literal_count}
-use Rattle.known_planes.proofs.CountLaws.{more_literals_count_more, literals_are_bits}
+use Rattle.known_planes.proofs.lemmas.Laws.{more_literals_count_more, literals_are_bits}
 use Rattle.plain_close.specs.declared.task_queues.InChunk.{InChunk}
 use Rattle.plain_close.specs.declared.levels.Level.{Level}
 use Rattle.plain_close.specs.Queues.{Waiting}
 use Rattle.plain_close.specs.Turns.{IsSettled, Wakes, HaveNoClash, block_in, has_bit}
 use Rattle.plain_close.specs.Levels.{IsLevel, IsNext, IsNoted}
-use Rattle.gate_rules.proofs.TaskForcing.{forced_by_cells}
+use Rattle.gate_rules.proofs.lemmas.Laws.{forced_by_cells}
 use Rattle.plain_close.proofs.Turning.{has-kept, has-bit_of, bit-has}
 
 -- The next planes have all that these force, and the blocks in which they differ were taken over.

@@ -11,10 +11,10 @@ use Rattle.sr_model.specs.Closure.{HasBoth}
 use Rattle.unroll.specs.declared.words.PinWord.{PinWord}
 use Rattle.unroll.specs.Bits.{is_set}
 use Rattle.unroll.specs.Problem.{Unrolling}
-use Rattle.unroll.proofs.WordBits.{is_set_and, is_set_zero}
+use Rattle.unroll.proofs.lemmas.Words.{is_set_and, is_set_zero}
 use Rattle.known_planes.specs.Planes.{PlaneSet, IsOf, lits, words_at}
 use Rattle.known_planes.specs.Clash.{has_both_at}
-use Rattle.known_planes.proofs.Clashes.{lowest-bit, both-here, in-block}
+use Rattle.known_planes.proofs.lemmas.Planes.{lowest-bit, both-here, in-block}
 use Rattle.plain_close.specs.declared.task_queues.InChunk.{InChunk}
 use Rattle.plain_close.specs.Turns.{HaveNoClash, IsInside, block_in}
 

@@ -7,14 +7,13 @@ use Rattle.sr_model.specs.declared.cells.Sig.{Sig}
 use Rattle.sr_model.specs.declared.gates.Kind.{Kind}
 use Rattle.sr_model.specs.declared.gates.Kind.TheVariants.{Dff}
 use Rattle.sr_model.specs.Netlist.{Driver, Input, Driven}
-use Rattle.sr_model.proofs.Members.{not_in_nil, Contains-cases, filter-member, filter-passes}
+use Rattle.sr_model.proofs.lemmas.Members.{not_in_nil, Contains-cases, filter-member, filter-passes}
 use Rattle.netlist.specs.Wiring.{driver_at, kind_of, is_flip_flop, is_driven, reads, other_readers, signals_below, readers}
 use Rattle.unroll.specs.declared.problem.Task.{Task}
 use Rattle.unroll.specs.Problem.{Unrolling, IsProblem, chunks_in}
 use Rattle.unroll.specs.Tasks.{IsTask, task_at, target_of, target_block, chunk_of, constant_tasks}
-use Rattle.unroll.proofs.BlockNumbers.{block-sig, block-chunk, sig-within, chunk-within, some_chunk, task-itself}
-use Rattle.unroll.proofs.AdjacentTasks.{reader-within}
-use Rattle.unroll.proofs.ConstantTasks.{force_from_nothing}
+use Rattle.unroll.proofs.lemmas.Blocks.{block-sig, block-chunk, sig-within, chunk-within, some_chunk, task-itself}
+use Rattle.unroll.proofs.lemmas.Tasks.{reader-within, force_from_nothing}
 use Rattle.plain_close.specs.Queues.{Waiting, Waits, IsFirst}
 use Rattle.plain_close.specs.Turns.{IsTaskAt, AreTasksOf, TaskWaits, Pushed, before_woken, chunk_woken, own_woken, woken_from}
 

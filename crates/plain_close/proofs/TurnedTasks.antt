@@ -6,9 +6,9 @@ use Rattle.sr_model.specs.Closure.{lit}
 use Rattle.unroll.specs.declared.problem.Task.{Task}
 use Rattle.unroll.specs.Problem.{Unrolling, IsProblem, block_of, bit_of}
 use Rattle.unroll.specs.Tasks.{drives_itself, target_of, blocks_of}
-use Rattle.unroll.proofs.TaskCells.{have_its_cells}
+use Rattle.unroll.proofs.lemmas.Tasks.{have_its_cells}
 use Rattle.gate_rules.specs.Forced.{ForcedIn, IsDone}
-use Rattle.gate_rules.proofs.TaskForcing.{done_once}
+use Rattle.gate_rules.proofs.lemmas.Laws.{done_once}
 use Rattle.known_planes.specs.Planes.{PlaneSet, has}
 use Rattle.plain_close.specs.declared.task_queues.InChunk.{InChunk}
 use Rattle.plain_close.specs.Queues.{Waiting}

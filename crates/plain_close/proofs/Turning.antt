@@ -7,25 +7,23 @@ use Rattle.sr_model.specs.declared.cells.Sig.{Sig}
 use Rattle.sr_model.specs.declared.cells.Cell.{Cell}
 use Rattle.sr_model.specs.declared.cells.Lit.{Lit}
 use Rattle.sr_model.specs.Closure.{Closure, SameLits, IsClosed, lit}
-use Rattle.sr_model.proofs.ClosureLaws.{forced_between, closed_between, same_closure, has_base}
-use Rattle.sr_model.proofs.Members.{not_in_nil, Contains-cases, Contains-here}
+use Rattle.sr_model.proofs.lemmas.Laws.{forced_between, closed_between, same_closure, has_base}
+use Rattle.sr_model.proofs.lemmas.Members.{not_in_nil, Contains-cases, Contains-here}
 use Rattle.unroll.specs.declared.problem.Block.{Block}
 use Rattle.unroll.specs.declared.problem.Task.{Task}
 use Rattle.unroll.specs.declared.words.PinWord.{PinWord}
 use Rattle.unroll.specs.Bits.{is_set, word_for}
 use Rattle.unroll.specs.Problem.{Unrolling, unrolled, IsProblem, chunks_in, block_of, bit_of, cell_of}
 use Rattle.unroll.specs.Tasks.{IsTask, IsCellOf, task_at, target_of, chunk_of, blocks_of, blocks_from}
-use Rattle.unroll.proofs.BlockNumbers.{task-itself}
-use Rattle.unroll.proofs.BlockCells.{cell-itself, bit-small, blocks-at}
-use Rattle.unroll.proofs.WordBits.{is_set_zero}
-use Rattle.unroll.proofs.TaskCells.{have_its_cells}
+use Rattle.unroll.proofs.lemmas.Blocks.{task-itself, cell-itself, bit-small, blocks-at}
+use Rattle.unroll.proofs.lemmas.Words.{is_set_zero}
+use Rattle.unroll.proofs.lemmas.Tasks.{have_its_cells}
 use Rattle.gate_rules.specs.Forced.{ForcedIn, IsDone, IsForcedExactly, bit_at_place, lit_at_place, view_has, words_of}
-use Rattle.gate_rules.proofs.NewLiterals.{forced-in_time}
+use Rattle.gate_rules.proofs.lemmas.Laws.{forced-in_time, closed_where_done, forced_by_cells}
 use Rattle.known_planes.specs.Planes.{PlaneSet, has, lits, words_at, no_bits, IsOf}
 use Rattle.plain_close.specs.declared.task_queues.InChunk.{InChunk}
 use Rattle.plain_close.specs.Queues.{Waiting, Waits, IsFirst}
 use Rattle.plain_close.specs.Turns.{IsTaskAt, AreTasksOf, TaskWaits, IsSettled, Wakes, JoinsFirst, AddsForced, AreForced, Turns, Between, block_in, has_bit, missing_of}
-use Rattle.gate_rules.proofs.TaskForcing.{closed_where_done, forced_by_cells}
 
 -- what the words beside the blocks are, where each is that of its block
 pub words-listed : (blocks : List Block) (f : Block → PinWord) (b : Block) → Contains blocks b → words_of blocks (map f blocks) b ≡ f b

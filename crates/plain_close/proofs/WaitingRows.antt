@@ -8,7 +8,7 @@ use Rattle.std.proofs.lemmas.List.Sums.{sum_by-set}
 use Rattle.std.proofs.Math.ListN.{get_or-eq_default}
 use Rattle.std.proofs.lemmas.List.Elements.{All-head, All-tail, Contains-append_left, Contains-push, Contains-push_cases}
 use Rattle.sr_model.specs.declared.cells.Sig.{Sig}
-use Rattle.sr_model.proofs.Members.{not_in_nil, Contains-cases, Contains-there, Contains-here}
+use Rattle.sr_model.proofs.lemmas.Members.{not_in_nil, Contains-cases, Contains-there, Contains-here}
 use Rattle.plain_close.specs.Queues.{Waiting, Waits, IsFirst, row_at, flag_at, waiting_count, IsFlagged}
 
 abbrev pub over : ℕ → List (List Sig) → Waiting

@@ -7,18 +7,17 @@ use Rattle.std.proofs.lemmas.Nat.{le_or_l}
 use Rattle.std.proofs.lemmas.List.Sums.{sum_by-set}
 use Rattle.sr_model.specs.declared.cells.Sig.{Sig}
 use Rattle.sr_model.specs.declared.cells.Cell.{Cell}
-use Rattle.sr_model.proofs.Members.{not_in_nil, Contains-cases, Contains-there, Contains-here}
+use Rattle.sr_model.proofs.lemmas.Members.{not_in_nil, Contains-cases, Contains-there, Contains-here}
 use Rattle.unroll.specs.declared.problem.Block.{Block}
 use Rattle.unroll.specs.declared.problem.Task.{Task}
 use Rattle.unroll.specs.declared.words.PinWord.{PinWord}
 use Rattle.unroll.specs.Bits.{is_set, word_for}
 use Rattle.unroll.specs.Problem.{Unrolling, signals_in, chunks_in, block_at, block_of, bit_of, sig_at, chunk_at}
 use Rattle.unroll.specs.Tasks.{IsCellOf}
-use Rattle.unroll.proofs.BlockNumbers.{block-sig, block-chunk, block-within}
-use Rattle.unroll.proofs.TaskCells.{role, cell-chunk}
+use Rattle.unroll.proofs.lemmas.Blocks.{block-sig, block-chunk, block-within}
+use Rattle.unroll.proofs.lemmas.Tasks.{role, cell-chunk}
 use Rattle.known_planes.specs.Planes.{PlaneSet, words_at, with_words, joined, no_bits, IsOf}
-use Rattle.known_planes.proofs.Members.{words-there, words-elsewhere}
-use Rattle.known_planes.proofs.DumpRows.{joined-bit}
+use Rattle.known_planes.proofs.lemmas.Planes.{words-there, words-elsewhere, joined-bit}
 use Rattle.plain_close.specs.Queues.{Waiting}
 use Rattle.plain_close.specs.Turns.{AreTasksOf, Pushed, Wakes, Falls, Joins, has_bit, missing_of, woken_from}
 use Rattle.plain_close.proofs.FreshBits.{fresh-cell}

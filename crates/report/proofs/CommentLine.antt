@@ -18,12 +18,12 @@ use Rattle.sr_model.specs.declared.cells.Lit.{Lit}
 use Rattle.sr_model.specs.Dump.{Row}
 use Rattle.netlist.specs.Circuit.{Circuit}
 use Rattle.netlist.specs.Wiring.{driver_at, is_flip_flop, signals_below}
-use Rattle.netlist.proofs.Marks.{signals_within}
+use Rattle.netlist.proofs.lemmas.Signals.{signals_within}
 use Rattle.dump_reader.specs.Recording.{Recording, IsCount, IsRecording, recorded}
 use Rattle.dump_reader.specs.Lines.{text_lines, numbered_from, numbered}
 use Rattle.dump_reader.specs.Grammar.{Spells}
 use Rattle.dump_reader.specs.Print.{printed, printed_lines, with_line_feed}
-use Rattle.dump_reader.proofs.ReadBack.{read_back}
+use Rattle.dump_reader.proofs.lemmas.Laws.{read_back}
 use Rattle.ratio.specs.Ratio.{in_thousandths}
 use Rattle.known_planes.specs.Counts.{known_count}
 use Rattle.report.specs.Table.{known_bit, known_row, known_rows, ratio_text, shown}

@@ -16,7 +16,7 @@ use Rattle.sr_model.specs.Netlist.{Unrolled, cell_at}
 use Rattle.sr_model.specs.Closure.{IsWithin, passing, lit}
 use Rattle.sr_model.specs.Decisions.{IsConsistent}
 use Rattle.sr_model.specs.Dump.{Row, dump_has, is_bit}
-use Rattle.sr_model.proofs.ClosureLaws.{sound, least, closed, has_base}
+use Rattle.sr_model.proofs.lemmas.Laws.{sound, least, closed, has_base}
 use Rattle.netlist.specs.Circuit.{unrolled_over}
 use Rattle.report.specs.Table.{known_bit, known_row, shown}
 use Rattle.report.specs.Laws.{TableAgain, TableIsSound}

@@ -1,8 +1,9 @@
-pub mod Cells
-pub mod CommentLine
-pub mod InTurn
-pub mod Joined
-pub mod KeyedWords
-pub mod KnownRows
-pub mod LinePieces
-pub mod Tables
+mod Cells
+mod CommentLine
+mod InTurn
+mod Joined
+mod KeyedWords
+mod KnownRows
+mod LinePieces
+mod Tables
+pub mod lemmas

@@ -6,19 +6,18 @@ use Rattle.sr_model.specs.declared.cells.Lit.{Lit}
 use Rattle.sr_model.specs.Closure.{SameLits, passing}
 use Rattle.sr_model.specs.Dump.{Known, Row, dump_has}
 use Rattle.sr_model.specs.Netlist.{Valuation}
-use Rattle.sr_model.proofs.DecidedLevels.{closure_test}
-use Rattle.sr_model.proofs.FirstClash.{dump_clash_or_none}
+use Rattle.sr_model.proofs.lemmas.Laws.{closure_test, dump_clash_or_none}
 use Rattle.sr_outside.specs.Told.{Held}
 use Rattle.netlist.specs.Circuit.{Circuit, IsCircuit, circuit_of, unrolled_over}
 use Rattle.netlist.specs.Checks.{without_lines}
 use Rattle.netlist.specs.Wiring.{flip_flops}
-use Rattle.netlist.proofs.NetlistOrRefused.{netlist_or_refused}
+use Rattle.netlist.proofs.lemmas.Laws.{netlist_or_refused}
 use Rattle.bench_reader.specs.Printed.{bench_text}
-use Rattle.bench_reader.proofs.ReadOrRefused as bench
+use Rattle.bench_reader.proofs.lemmas.Laws as bench
 use Rattle.dump_reader.specs.Grammar.{block_count}
 use Rattle.dump_reader.specs.Print.{printed}
 use Rattle.dump_reader.specs.Recording.{Recording}
-use Rattle.dump_reader.proofs.ReadOrRefused as dumps
+use Rattle.dump_reader.proofs.lemmas.Laws as dumps
 use Rattle.known_planes.specs.Counts.{known_count}
 use Rattle.ratio.specs.Ratio.{Counts}
 use Rattle.cycle_sim.specs.Drawing.{drawn_bit}

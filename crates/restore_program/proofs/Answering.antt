@@ -10,7 +10,7 @@ use Rattle.sr_model.specs.Declaration.{Declaration, declared, declarations_of, d
 use Rattle.sr_model.specs.Netlist.{Unrolled}
 use Rattle.sr_model.specs.Closure.{LitSet, Closure, SameLits, passing}
 use Rattle.sr_model.specs.Dump.{Known, Row, dump_has}
-use Rattle.sr_model.proofs.ClosureLaws.{monotone}
+use Rattle.sr_model.proofs.lemmas.Laws.{monotone}
 use Rattle.sr_outside.specs.Told.{Held}
 use Rattle.sr_outside.specs.declared.whole.ReadRefusal.{ReadRefusal}
 use Rattle.sr_outside.specs.declared.whole.ReadRefusal.TheVariants as reads

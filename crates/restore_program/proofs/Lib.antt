@@ -1,38 +1,38 @@
-pub mod AnswerExists
-pub mod Answering
-pub mod AskedLoad
-pub mod AskedRestore
-pub mod AskedSimulation
-pub mod BadNumbers
-pub mod CommandShapes
-pub mod CommandWords
-pub mod DecidedNumbers
-pub mod DecidedShapes
-pub mod Deciding
-pub mod FewWords
-pub mod Files
-pub mod Gifts
-pub mod GivenKeys
-pub mod GivenValues
-pub mod Inputless
-pub mod LoadCounts
-pub mod Loads
-pub mod NamesDecided
-pub mod OneAnswer
-pub mod OneLoad
-pub mod OneMeaning
-pub mod OneRequest
-pub mod OneRun
-pub mod OneTrace
-pub mod Outcomes
-pub mod Prepared
-pub mod Reading
-pub mod SameTests
-pub mod SimulatedTraces
-pub mod Simulations
-pub mod Sounding
-pub mod TraceNames
-pub mod TraceSignals
-pub mod WordPlaces
-pub mod WordStatuses
-pub mod WordsDecided
+mod AnswerExists
+mod Answering
+mod AskedLoad
+mod AskedRestore
+mod AskedSimulation
+mod BadNumbers
+mod CommandShapes
+mod CommandWords
+mod DecidedNumbers
+mod DecidedShapes
+mod Deciding
+mod FewWords
+mod Files
+mod Gifts
+mod GivenKeys
+mod GivenValues
+mod Inputless
+mod LoadCounts
+mod Loads
+mod NamesDecided
+mod OneAnswer
+mod OneLoad
+mod OneMeaning
+mod OneRequest
+mod OneRun
+mod OneTrace
+mod Outcomes
+mod Prepared
+mod Reading
+mod SameTests
+mod SimulatedTraces
+mod Simulations
+mod Sounding
+mod TraceNames
+mod TraceSignals
+mod WordPlaces
+mod WordStatuses
+mod WordsDecided

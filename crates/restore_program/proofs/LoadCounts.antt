@@ -13,7 +13,7 @@ use Rattle.netlist.specs.Wiring.{flip_flops}
 use Rattle.unroll.specs.Problem.{Unrolling, unrolled}
 use Rattle.known_planes.specs.Planes.{PlaneSet, has, lits}
 use Rattle.ratio.specs.Ratio.{Counts}
-use Rattle.report.proofs.CommentLine.{shown_once, shown_within}
+use Rattle.report.proofs.lemmas.Laws.{shown_once, shown_within}
 use Rattle.known_planes.specs.Counts.{known_count}
 use Rattle.restore_program.specs.Loading.{AreCountsOf}
 use Rattle.restore_program.proofs.Answering.{known_from}

@@ -7,22 +7,21 @@ use Rattle.sr_model.specs.declared.cells.Lit.{Lit}
 use Rattle.sr_model.specs.Dump.{dump_has}
 use Rattle.sr_model.specs.Order.{CellLe}
 use Rattle.sr_model.specs.Closure.{HasBoth, SameLits, level, lit, passing}
-use Rattle.sr_model.proofs.ClosureLaws.{level_in_Closure}
+use Rattle.sr_model.proofs.lemmas.Laws.{level_in_Closure}
 use Rattle.sr_outside.specs.Told.{Held}
 use Rattle.bench_reader.specs.Grammar as grammar
-use Rattle.bench_reader.proofs.BenchLaws as texts
+use Rattle.bench_reader.proofs.lemmas.Laws as texts
 use Rattle.netlist.specs.Circuit.{Circuit, IsCircuit, circuit_of, unrolled_over}
 use Rattle.std.specs.Fmt.{decimal}
 use Rattle.netlist.specs.Laws.{SameRefusal}
-use Rattle.netlist.proofs.Circuits.{statements_give_circuits}
-use Rattle.netlist.proofs.OneRefusal.{refusal_is_unique, netlists_are_not_refused}
-use Rattle.bench_reader.proofs.Statements.{spells_statements}
+use Rattle.netlist.proofs.lemmas.Laws.{statements_give_circuits, refusal_is_unique, netlists_are_not_refused}
+use Rattle.bench_reader.proofs.lemmas.Laws.{spells_statements}
 use Rattle.netlist.specs.Checks as checks
 use Rattle.netlist.specs.declared.checks.NetRefusal.{NetRefusal}
 use Rattle.netlist.specs.declared.checks.NetRefusal.TheVariants as net
 use Rattle.dump_reader.specs.Recording.{Recording}
-use Rattle.dump_reader.proofs.SameRows.{one_reading}
-use Rattle.dump_reader.proofs.RefusedOnce as dump_laws
+use Rattle.dump_reader.proofs.lemmas.Laws.{one_reading}
+use Rattle.dump_reader.proofs.lemmas.Laws as dump_laws
 use Rattle.report.specs.Clash.{clash_line}
 use Rattle.report.specs.InputRefusals.{bench_line, net_line, dump_line}
 use Rattle.report.specs.Refusals.{word_line}

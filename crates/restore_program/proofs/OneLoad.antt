@@ -6,11 +6,11 @@ use Rattle.sr_model.specs.declared.cells.Sig.{Sig}
 use Rattle.sr_model.specs.Dump.{Known, Row}
 use Rattle.netlist.specs.Circuit.{Circuit, IsCircuit, unrolled_over}
 use Rattle.netlist.specs.Wiring.{flip_flops}
-use Rattle.netlist.proofs.Circuits.{statements_give_circuits}
+use Rattle.netlist.proofs.lemmas.Laws.{statements_give_circuits}
 use Rattle.ratio.specs.Ratio.{Counts}
 use Rattle.cycle_sim.specs.Load.{IsLoadSize, load_statements}
-use Rattle.cycle_sim.proofs.LoadNets.{all-stated, is-netlist}
-use Rattle.report.proofs.CommentLine.{shown_within}
+use Rattle.cycle_sim.proofs.lemmas.Loads.{all-stated, is-netlist}
+use Rattle.report.proofs.lemmas.Laws.{shown_within}
 use Rattle.report.specs.Load.{load_line}
 use Rattle.known_planes.specs.Counts.{known_count}
 use Rattle.restore_program.specs.Loading.{AreCountsOf, IsLoadText, IsLoadTrace, load_circuit, load_cycles, load_traced}

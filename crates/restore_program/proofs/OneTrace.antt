@@ -6,7 +6,7 @@ use Rattle.std.proofs.lemmas.List.{get_or_append_left, length-append}
 use Rattle.std.proofs.lemmas.List.Elements.{Contains-append_right}
 use Rattle.std.proofs.lemmas.Option.{get_or_from_slice_get, slice_get_within}
 use Rattle.sr_model.specs.declared.cells.Sig.{Sig}
-use Rattle.sr_model.proofs.Members.{Contains-cases, Contains-here, not_in_nil}
+use Rattle.sr_model.proofs.lemmas.Members.{Contains-cases, Contains-here, not_in_nil}
 use Rattle.netlist.specs.Circuit.{Circuit, IsCircuit}
 use Rattle.dump_reader.specs.Grammar.{block_count}
 use Rattle.dump_reader.specs.Print.{printed}

@@ -1,7 +1,7 @@
 -- What is known from the trace of a simulated execution.
 use Rattle.sr_model.specs.Closure.{passing}
 use Rattle.sr_model.specs.Dump.{dump_has}
-use Rattle.sr_model.proofs.ClosureLaws.{no_execution_has_both}
+use Rattle.sr_model.proofs.lemmas.Laws.{no_execution_has_both}
 use Rattle.netlist.specs.Circuit.{unrolled_over}
 use Rattle.cycle_sim.specs.Simulation.{traced_rows}
 use Rattle.cycle_sim.proofs.lemmas.Simulations.{simulation_has_what_follows, trace_matches}

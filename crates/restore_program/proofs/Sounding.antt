@@ -3,13 +3,12 @@ use Rattle.std.proofs.Common.{◌≡◌, ℕ, Bool, List, Option, Some, None, in
 use Rattle.std.specs.Prelude.{IfSome}
 use Rattle.sr_model.specs.Closure.{passing}
 use Rattle.sr_model.specs.Dump.{dump_has}
-use Rattle.sr_model.proofs.ClosureLaws.{no_execution_has_both}
+use Rattle.sr_model.proofs.lemmas.Laws.{no_execution_has_both}
 use Rattle.sr_outside.specs.Told.{Held}
 use Rattle.netlist.specs.Circuit.{Circuit, unrolled_over}
 use Rattle.dump_reader.specs.Recording.{Recording}
 use Rattle.report.specs.Table.{known_rows}
-use Rattle.report.proofs.CommentLine.{table_is_dump}
-use Rattle.report.proofs.KnownRows.{table_again, table_is_sound}
+use Rattle.report.proofs.lemmas.Laws.{table_is_dump, table_again, table_is_sound}
 use Rattle.restore_program.specs.declared.status.Status.{Status}
 use Rattle.restore_program.specs.declared.status.Status.TheVariants as statuses
 use Rattle.restore_program.specs.declared.reply.Reply.{Reply}

@@ -10,7 +10,7 @@ use Rattle.sr_model.specs.AndLike.{all_have, IsAndLike}
 use Rattle.sr_model.specs.Gate.{value}
 use Rattle.sr_model.specs.Netlist.{Instance, cells_of, Valuation, IsRow, Has}
 use Rattle.sr_model.specs.Closure.{Forces, passing, lit}
-use Rattle.sr_model.proofs.Members.{Contains-here, Contains-there, Contains-map, All-one, filter-member, filter-passes, filter-has, list_all-at, list_all-from, list_all-fails, list_any-from, list_any-found, All-from_Contains}
+use Rattle.sr_model.proofs.lemmas.Members.{Contains-here, Contains-there, Contains-map, All-one, filter-member, filter-passes, filter-has, list_all-at, list_all-from, list_all-fails, list_any-from, list_any-found, All-from_Contains}
 use Rattle.sr_model.proofs.Rows.{cell_eq, cell_cases, cell_eq-true, cell_eq-itself, cell_eq-swap, put, put-at, put-other, Keeps, Keeps-itself, Keeps-put, Forces-row, row_with}
 
 pub beq-true : (a b : Bool) → beq a b ≡ true → a ≡ b

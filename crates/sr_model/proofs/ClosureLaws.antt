@@ -8,7 +8,7 @@ use Rattle.sr_model.specs.declared.cells.Lit.{Lit}
 use Rattle.sr_model.specs.declared.cells.Place.{Place}
 use Rattle.sr_model.specs.Netlist.{Unrolled, Valuation, IsExecution, Has}
 use Rattle.sr_model.specs.Closure.{LitSet, ForcesAt, ForcesSomewhere, IsDerivation, Closure, IsWithin, SameLits, IsClosed, level, HasBoth, lit}
-use Rattle.sr_model.proofs.Members.{not_in_nil, Contains-here, Contains-cases}
+use Rattle.sr_model.proofs.lemmas.Members.{not_in_nil, Contains-here, Contains-cases}
 
 -- what is forced, by any set that has the part
 pub ForcesAt-with : (u : Unrolled) (few many : LitSet) (p : Place) (l : Lit) (f : ForcesAt u few p l) → All many f.forces.part → ForcesAt u many p l

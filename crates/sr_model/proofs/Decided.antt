@@ -6,7 +6,7 @@ use Rattle.std.proofs.lemmas.List.Elements.{All-head, All-tail, All-nil, All-con
 use Rattle.sr_model.specs.declared.cells.Cell.{Cell}
 use Rattle.sr_model.specs.Order.{CellLe}
 use Rattle.sr_model.specs.Netlist.{Valuation}
-use Rattle.sr_model.proofs.Members.{not_in_nil, Contains-here, Contains-there, Contains-cases}
+use Rattle.sr_model.proofs.lemmas.Members.{not_in_nil, Contains-here, Contains-there, Contains-cases}
 use Rattle.sr_model.proofs.Rows.{put, put-at, put-other, cell_cases}
 
 -- it holds, or it can't

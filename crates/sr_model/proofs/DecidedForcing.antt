@@ -10,9 +10,9 @@ use Rattle.sr_model.specs.declared.cells.Place.{Place}
 use Rattle.sr_model.specs.Gate.{value}
 use Rattle.sr_model.specs.Netlist.{Input, Driven, Unrolled, Instance, instance_at, cells_of, Valuation, IsRow, Has}
 use Rattle.sr_model.specs.Closure.{Forces, ForcesAt, ForcesSomewhere, passing, lit}
-use Rattle.sr_model.proofs.Members.{Contains-here, Contains-there, map-agree, All-from_Contains, Contains-map, filter-member, filter-passes, filter-has, map-member}
+use Rattle.sr_model.proofs.lemmas.Members.{Contains-here, Contains-there, map-agree, All-from_Contains, Contains-map, filter-member, filter-passes, filter-has, map-member}
 use Rattle.sr_model.proofs.Rows.{cell_eq, cell_eq-itself, cell_cases}
-use Rattle.sr_model.proofs.Instances.{Stands, stands}
+use Rattle.sr_model.proofs.lemmas.Instances.{Stands, stands}
 use Rattle.sr_model.proofs.Decided.{Decided, decided_both, decided_then, decided_not, decided_as, decided_bit, decided_some, decided_all, decided_below, decided_valuation}
 
 decided_cell : (a b : Cell) → Decided (a ≡ b)

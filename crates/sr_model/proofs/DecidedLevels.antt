@@ -8,7 +8,7 @@ use Rattle.sr_model.specs.declared.cells.Cell.{Cell}
 use Rattle.sr_model.specs.declared.cells.Lit.{Lit}
 use Rattle.sr_model.specs.Netlist.{Unrolled, Instance, instance_at, cells_of}
 use Rattle.sr_model.specs.Closure.{LitSet, Closure, ForcesSomewhere, IsWithin, SameLits, level, passing, lit}
-use Rattle.sr_model.proofs.Members.{not_in_nil, Contains-here, Contains-there, Contains-cases}
+use Rattle.sr_model.proofs.lemmas.Members.{not_in_nil, Contains-here, Contains-there, Contains-cases}
 use Rattle.sr_model.proofs.ClosureLaws.{ForcesSomewhere-more, stable_level}
 use Rattle.sr_model.proofs.Decided.{Decided, decided_both, decided_either, decided_not, decided_as, decided_bit, decided_some, test_of, test_of-true, test_of-holds}
 use Rattle.sr_model.proofs.DecidedForcing.{place, place_within, decided_somewhere}

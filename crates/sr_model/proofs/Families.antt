@@ -7,7 +7,7 @@ use Rattle.sr_model.specs.AndLike.{IsAndLike}
 use Rattle.sr_model.specs.Gate.{IsPinCount}
 use Rattle.sr_model.specs.Netlist.{cell_at}
 use Rattle.sr_model.specs.XorLike.{IsXorLike}
-use Rattle.sr_model.proofs.Instances.{instance_of}
+use Rattle.sr_model.proofs.lemmas.Instances.{instance_of}
 use Rattle.sr_model.proofs.AndKinds.{and_is, nand_is, or_gate_is, nor_is, not_is, buf_is, dff_is}
 use Rattle.sr_model.proofs.XorLike.{xor_is, xnor_is}
 

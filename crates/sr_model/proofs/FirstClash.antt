@@ -10,7 +10,7 @@ use Rattle.sr_model.specs.Netlist.{Unrolled, cell_at}
 use Rattle.sr_model.specs.Closure.{Closure, IsWithin, SameLits, HasBoth, level, passing, lit}
 use Rattle.sr_model.specs.Dump.{Row, Known, dump_has, is_bit}
 use Rattle.sr_model.specs.Decisions.{IsConsistent, HasFirstClash}
-use Rattle.sr_model.proofs.Members.{Contains-here}
+use Rattle.sr_model.proofs.lemmas.Members.{Contains-here}
 use Rattle.sr_model.proofs.Decided.{Decided, decided_both, decided_some, least_number, least_cell}
 use Rattle.sr_model.proofs.DecidedLevels.{joined_below, joined_below-has, instance_cells, forced-cell, decided_level, last_level}
 

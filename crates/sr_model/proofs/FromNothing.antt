@@ -14,8 +14,8 @@ use Rattle.sr_model.specs.Netlist.{Instance, cells_of, cell_at}
 use Rattle.sr_model.specs.Closure.{Forces, passing, lit}
 use Rattle.sr_model.specs.Worked.{nothing}
 use Rattle.sr_model.specs.XorLike.{is_odd, IsXorLike}
-use Rattle.sr_model.proofs.Instances.{instance_of}
-use Rattle.sr_model.proofs.Members.{Contains-cases, Contains-here}
+use Rattle.sr_model.proofs.lemmas.Instances.{instance_of}
+use Rattle.sr_model.proofs.lemmas.Members.{Contains-cases, Contains-here}
 use Rattle.sr_model.proofs.Rows.{cell_eq, cell_cases, cell_eq-swap}
 use Rattle.sr_model.proofs.AndLike.{bit_cases, target_t, target_other, pin_p, pin_other}
 use Rattle.sr_model.proofs.OddCells.{target_odd, pin_odd}

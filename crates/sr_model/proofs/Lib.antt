@@ -1,22 +1,21 @@
-pub mod AndExact
-pub mod AndKinds
-pub mod AndLike
-pub mod ClosureLaws
-pub mod Decided
-pub mod DecidedForcing
-pub mod DecidedLevels
-pub mod Families
-pub mod FirstClash
-pub mod Forcing
-pub mod FromNothing
-pub mod Instances
-pub mod Members
-pub mod Missed
-pub mod OddCells
-pub mod OddCounts
-pub mod OddPins
-pub mod Parity
-pub mod Rows
-pub mod XorChoice
-pub mod XorExact
-pub mod XorLike
+mod AndExact
+mod AndKinds
+mod AndLike
+mod ClosureLaws
+mod Decided
+mod DecidedForcing
+mod DecidedLevels
+mod Families
+mod FirstClash
+mod Forcing
+mod FromNothing
+mod Missed
+mod OddCells
+mod OddCounts
+mod OddPins
+mod Parity
+mod Rows
+mod XorChoice
+mod XorExact
+mod XorLike
+pub mod lemmas

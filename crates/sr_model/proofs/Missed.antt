@@ -9,11 +9,11 @@ use Rattle.sr_model.specs.declared.cells.Place.{Place}
 use Rattle.sr_model.specs.Netlist.{Input, Driven, Instance, Valuation, IsExecution, cell_at}
 use Rattle.sr_model.specs.Closure.{Forces, Closure, IsClosed, passing, lit}
 use Rattle.sr_model.specs.Worked.{sig, cell, missed, nothing}
-use Rattle.sr_model.proofs.Members.{not_in_nil, Contains-cases, Contains-here}
+use Rattle.sr_model.proofs.lemmas.Members.{not_in_nil, Contains-cases, Contains-here}
 use Rattle.sr_model.proofs.FromNothing.{and_forces_nothing}
 use Rattle.sr_model.proofs.AndKinds.{not_is, or_gate_is}
 use Rattle.sr_model.proofs.ClosureLaws.{least}
-use Rattle.sr_model.proofs.Instances.{stands, Stands, instance_of}
+use Rattle.sr_model.proofs.lemmas.Instances.{stands, Stands, instance_of}
 
 pub always : (v : Valuation) → IsExecution missed v → v (cell 2 0) ≡ true
 always v runs =

@@ -7,7 +7,7 @@ use Rattle.sr_model.specs.declared.cells.Cell.{Cell}
 use Rattle.sr_model.specs.declared.cells.Lit.{Lit}
 use Rattle.sr_model.specs.Netlist.{Instance, Valuation}
 use Rattle.sr_model.specs.XorLike.{plus, parity}
-use Rattle.sr_model.proofs.Members.{not_in_nil, Contains-here, Contains-there}
+use Rattle.sr_model.proofs.lemmas.Members.{not_in_nil, Contains-here, Contains-there}
 use Rattle.sr_model.proofs.Rows.{cell_eq, cell_cases, cell_eq-itself}
 use Rattle.sr_model.proofs.Parity.{plus_swap}
 use Rattle.sr_model.proofs.OddCells.{Contains-later, AreOdd, others_of}

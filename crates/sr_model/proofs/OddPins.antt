@@ -13,8 +13,8 @@ use Rattle.sr_model.specs.declared.cells.Cell.{Cell}
 use Rattle.sr_model.specs.declared.cells.Place.{Place}
 use Rattle.sr_model.specs.Netlist.{Instance, cells_of, cell_at, delay}
 use Rattle.sr_model.specs.XorLike.{plus, is_odd}
-use Rattle.sr_model.proofs.Instances.{instance_of}
-use Rattle.sr_model.proofs.Members.{not_in_nil, Contains-cases, Contains-here, Contains-there, Contains-map, map-member, All-from_Contains}
+use Rattle.sr_model.proofs.lemmas.Instances.{instance_of}
+use Rattle.sr_model.proofs.lemmas.Members.{not_in_nil, Contains-cases, Contains-here, Contains-there, Contains-map, map-member, All-from_Contains}
 use Rattle.sr_model.proofs.Rows.{cell_cases}
 use Rattle.sr_model.proofs.Parity.{odd_step}
 use Rattle.sr_model.proofs.OddCells.{target_odd, pin_odd, AreOdd}

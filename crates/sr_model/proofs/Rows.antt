@@ -8,7 +8,7 @@ use Rattle.sr_model.specs.declared.cells.Lit.{Lit}
 use Rattle.sr_model.specs.Gate.{value}
 use Rattle.sr_model.specs.Netlist.{Instance, cells_of, Valuation, IsRow, Has}
 use Rattle.sr_model.specs.Closure.{Forces, passing, lit}
-use Rattle.sr_model.proofs.Members.{map-agree, All-one, All-from_Contains}
+use Rattle.sr_model.proofs.lemmas.Members.{map-agree, All-one, All-from_Contains}
 
 abbrev pub cell_eq : Cell → Cell → Bool
 cell_eq a b = eqb a.cycle b.cycle && eqb a.sig.0 b.sig.0

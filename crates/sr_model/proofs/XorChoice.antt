@@ -7,7 +7,7 @@ use Rattle.sr_model.specs.declared.cells.Lit.{Lit}
 use Rattle.sr_model.specs.Netlist.{Instance, cells_of, Valuation}
 use Rattle.sr_model.specs.Closure.{Forces, passing, lit}
 use Rattle.sr_model.specs.XorLike.{plus, parity, is_odd, IsXorLike}
-use Rattle.sr_model.proofs.Members.{not_in_nil, list_all-at, list_all-from, list_any-from, list_any-found}
+use Rattle.sr_model.proofs.lemmas.Members.{not_in_nil, list_all-at, list_all-from, list_any-from, list_any-found}
 use Rattle.sr_model.proofs.Rows.{cell_eq, cell_cases, put, put-at, put-other, Keeps-itself, Forces-row}
 use Rattle.sr_model.proofs.AndLike.{bit_cases}
 use Rattle.sr_model.proofs.Parity.{parity-turn, parity-agree}

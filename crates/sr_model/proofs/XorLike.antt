@@ -9,7 +9,7 @@ use Rattle.sr_model.specs.declared.gates.Kind.TheVariants.{Xor, Xnor}
 use Rattle.sr_model.specs.Netlist.{Instance, cells_of, Valuation, IsRow, Has}
 use Rattle.sr_model.specs.Closure.{Forces, passing, lit}
 use Rattle.sr_model.specs.XorLike.{plus, parity, is_odd, IsXorLike}
-use Rattle.sr_model.proofs.Members.{Contains-here, Contains-there, Contains-map, filter-member, filter-passes, filter-has, All-from_Contains}
+use Rattle.sr_model.proofs.lemmas.Members.{Contains-here, Contains-there, Contains-map, filter-member, filter-passes, filter-has, All-from_Contains}
 use Rattle.sr_model.proofs.Rows.{cell_eq, cell_cases, cell_eq-swap, put, put-at, put-other, Keeps, Keeps-itself, Keeps-put, Forces-row}
 use Rattle.sr_model.proofs.AndLike.{bit_cases}
 use Rattle.sr_model.proofs.Parity.{odd_one-is, plus_move, parity-turn, parity-agree}

@@ -1,2 +1,2 @@
-pub mod ReadsDecimal
-pub mod Tokens
+mod ReadsDecimal
+mod Tokens

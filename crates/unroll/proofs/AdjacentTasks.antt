@@ -9,9 +9,9 @@ use Rattle.std.proofs.lemmas.List.FromFn.{length-map-range_with_len}
 use Rattle.std.proofs.lemmas.Option.{slice_get-map, slice_get-get_or, slice_get_past, slice_get_within, get_or_from_slice_get}
 use Rattle.sr_model.specs.declared.cells.Sig.{Sig}
 use Rattle.sr_model.specs.Netlist.{Driver, Input, Driven}
-use Rattle.sr_model.proofs.Members.{not_in_nil, Contains-cases, map-member, filter-member, filter-passes}
+use Rattle.sr_model.proofs.lemmas.Members.{not_in_nil, Contains-cases, map-member, filter-member, filter-passes}
 use Rattle.netlist.specs.Wiring.{driver_at, is_driven, is_flip_flop, reads, readers, other_readers, signals_below}
-use Rattle.netlist.proofs.Marks.{signals_within}
+use Rattle.netlist.proofs.lemmas.Signals.{signals_within}
 use Rattle.unroll.specs.declared.problem.Task.{Task}
 use Rattle.unroll.specs.Problem.{Unrolling, signals_in, chunks_in}
 use Rattle.unroll.specs.Tasks.{IsTask, task_at, own_tasks, adjacent_from}

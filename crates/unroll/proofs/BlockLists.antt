@@ -10,8 +10,7 @@ use Rattle.sr_model.specs.declared.gates.Kind.TheVariants.{And, Nand, Or, Nor, X
 use Rattle.sr_model.specs.declared.cells.Sig.{Sig}
 use Rattle.sr_model.specs.Netlist.{Driver, Input, Driven}
 use Rattle.netlist.specs.Wiring.{driver_at, is_flip_flop, has_signal, pins_of, signals_below, signals_of, HasPinCount}
-use Rattle.netlist.proofs.FewSignals.{few_signals, signals-pins}
-use Rattle.netlist.proofs.Marks.{signals_within}
+use Rattle.netlist.proofs.lemmas.Signals.{few_signals, signals-pins, signals_within}
 use Rattle.unroll.specs.declared.problem.Block.{Block}
 use Rattle.unroll.specs.Problem.{Unrolling, IsProblem, chunks_in, block_at}
 use Rattle.unroll.specs.Tasks.{blocks_for, blocks_from}

@@ -6,8 +6,8 @@ use Rattle.sr_model.specs.declared.cells.Sig.{Sig}
 use Rattle.sr_model.specs.declared.cells.Cell.{Cell}
 use Rattle.sr_model.specs.declared.cells.Place.{Place}
 use Rattle.sr_model.specs.Netlist.{Driver, Input, Driven, cell_at, cells_of, delay}
-use Rattle.sr_model.proofs.Instances.{instance_of, stands-at}
-use Rattle.sr_model.proofs.Members.{Contains-here, Contains-there, Contains-map, list_any-found}
+use Rattle.sr_model.proofs.lemmas.Instances.{instance_of, stands-at}
+use Rattle.sr_model.proofs.lemmas.Members.{Contains-here, Contains-there, Contains-map, list_any-found}
 use Rattle.netlist.specs.Wiring.{driver_at, is_driven, reads}
 use Rattle.unroll.specs.declared.problem.Task.{Task}
 use Rattle.unroll.specs.Problem.{Unrolling, IsProblem, unrolled}

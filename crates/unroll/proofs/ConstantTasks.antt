@@ -16,19 +16,18 @@ use Rattle.sr_model.specs.Gate.{IsPinCount}
 use Rattle.sr_model.specs.Netlist.{Driver, Input, Driven, cell_at}
 use Rattle.sr_model.specs.Closure.{Forces, ForcesAt, passing, lit}
 use Rattle.sr_model.specs.Worked.{nothing}
-use Rattle.sr_model.proofs.Instances.{Stands, stands, stands-at, instance_of}
-use Rattle.sr_model.proofs.Members.{not_in_nil, Contains-here, Contains-there, Contains-map, map-member, list_all-at, list_all-from, list_any-from, list_any-found}
-use Rattle.sr_model.proofs.OddPins.{AllEven, IsApartFrom, apart_from_pins, dff_apart, odd_among}
-use Rattle.sr_model.proofs.FromNothing.{IsParity, forces_nothing, xor_forces_even, xnor_forces_even}
+use Rattle.sr_model.proofs.lemmas.Instances.{Stands, stands, stands-at, instance_of}
+use Rattle.sr_model.proofs.lemmas.Members.{not_in_nil, Contains-here, Contains-there, Contains-map, map-member, list_all-at, list_all-from, list_any-from, list_any-found}
+use Rattle.sr_model.proofs.lemmas.ParityRules.{AllEven, IsApartFrom, apart_from_pins, dff_apart, odd_among}
+use Rattle.sr_model.proofs.lemmas.FromNothing.{IsParity, forces_nothing, xor_forces_even, xnor_forces_even}
 use Rattle.netlist.specs.Wiring.{driver_at, is_driven, is_gate, pins_of, kind_of, is_odd_pin, pin_parities, signals_below, signals_of, HasPinCount}
-use Rattle.netlist.proofs.Marks.{signals_member, signal_within}
-use Rattle.netlist.proofs.OwnPin.{own_pin}
+use Rattle.netlist.proofs.lemmas.Signals.{signals_member, signal_within, own_pin}
 use Rattle.unroll.specs.declared.problem.Task.{Task}
 use Rattle.unroll.specs.Problem.{Unrolling, unrolled, IsProblem, signals_in, chunks_in, blocks_in}
 use Rattle.unroll.specs.Tasks.{IsTask, task_at, tasks_at, constant_tasks_at, target_of, target_block, chunk_of, is_parity, is_constant, constant_tasks}
 use Rattle.unroll.specs.Laws.{ForcesFromNothing}
 use Rattle.unroll.proofs.BlockNumbers.{some_chunk, block-sig, block-chunk, block-within, chunk-within, sig-within, task-itself}
-use Rattle.unroll.proofs.FlatMaps.{flat_map-has, flat_map-found, ascending-flat, signals-ascend}
+use Rattle.unroll.proofs.lemmas.FlatMaps.{flat_map-has, flat_map-found, ascending-flat, signals-ascend}
 use Rattle.unroll.proofs.TaskBlocks.{signal-listed}
 use Rattle.unroll.proofs.TaskCells.{driven-within, pin-signal, pins-within}
 

@@ -1,12 +1,12 @@
-pub mod Masks
-pub mod BlockNumbers
-pub mod FlatMaps
-pub mod TaskBlocks
-pub mod TaskCells
-pub mod BlockLists
-pub mod AdjacentTasks
-pub mod ConstantTasks
-pub mod CellTests
-pub mod WordBits
-pub mod BlockCells
-pub mod SharedCells
+mod Masks
+mod BlockNumbers
+mod TaskBlocks
+mod TaskCells
+mod BlockLists
+mod AdjacentTasks
+mod ConstantTasks
+mod CellTests
+mod WordBits
+mod BlockCells
+mod SharedCells
+pub mod lemmas

@@ -6,16 +6,16 @@ use Rattle.std.proofs.lemmas.List.Kept.{AllPairs-cons, AllPairs-filter}
 use Rattle.std.proofs.lemmas.List.Elements.{All-nil}
 use Rattle.sr_model.specs.declared.cells.Sig.{Sig}
 use Rattle.sr_model.specs.Netlist.{Driver, Input, Driven}
-use Rattle.sr_model.proofs.Members.{not_in_nil, Contains-here, Contains-there, Contains-cases, All-one, filter-member, filter-passes, filter-has}
+use Rattle.sr_model.proofs.lemmas.Members.{not_in_nil, Contains-here, Contains-there, Contains-cases, All-one, filter-member, filter-passes, filter-has}
 use Rattle.netlist.specs.Wiring.{driver_at, has_signal, is_driven, is_flip_flop, reads, signals_below, signals_of}
-use Rattle.netlist.proofs.Marks.{signals_member, signal_within}
+use Rattle.netlist.proofs.lemmas.Signals.{signals_member, signal_within}
 use Rattle.unroll.specs.declared.problem.Block.{Block}
 use Rattle.unroll.specs.declared.problem.Task.{Task}
 use Rattle.unroll.specs.Problem.{Unrolling, IsProblem, signals_in, chunks_in, blocks_in, block_at, sig_at, chunk_at}
 use Rattle.unroll.specs.Tasks.{IsTask, target_of, target_block, chunk_of, goes_on_from, blocks_for, blocks_from, blocks_of}
 use Rattle.unroll.specs.Laws.{IsBlockOf}
 use Rattle.unroll.proofs.BlockNumbers.{some_chunk, block-sig, block-chunk, block-within, block-itself, chunk-within, sig-within}
-use Rattle.unroll.proofs.FlatMaps.{flat_map-has, flat_map-found, ascending-flat, signals-ascend}
+use Rattle.unroll.proofs.lemmas.FlatMaps.{flat_map-has, flat_map-found, ascending-flat, signals-ascend}
 
 -- the signals of a gate or flip-flop
 pub signal-listed : (drivers : List Driver) (t s : Sig) → s.0 < length drivers → has_signal (driver_at drivers t.0) t s ≡ true → Contains (signals_of drivers t) s

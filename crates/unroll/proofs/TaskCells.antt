@@ -9,10 +9,10 @@ use Rattle.sr_model.specs.declared.cells.Sig.{Sig}
 use Rattle.sr_model.specs.declared.cells.Cell.{Cell}
 use Rattle.sr_model.specs.declared.cells.Place.{Place}
 use Rattle.sr_model.specs.Netlist.{Driver, Input, Driven, Instance, instance_at, cell_at, cells_of, delay}
-use Rattle.sr_model.proofs.Instances.{Stands, stands, stands-at, instance_of}
-use Rattle.sr_model.proofs.Members.{not_in_nil, Contains-here, Contains-there, Contains-cases, Contains-map, list_any-from, filter-has}
+use Rattle.sr_model.proofs.lemmas.Instances.{Stands, stands, stands-at, instance_of}
+use Rattle.sr_model.proofs.lemmas.Members.{not_in_nil, Contains-here, Contains-there, Contains-cases, Contains-map, list_any-from, filter-has}
 use Rattle.netlist.specs.Wiring.{driver_at, has_signal, is_driven, is_flip_flop, pins_of, reads, readers, other_readers, signals_below}
-use Rattle.netlist.proofs.Marks.{signals_member}
+use Rattle.netlist.proofs.lemmas.Signals.{signals_member}
 use Rattle.unroll.specs.declared.problem.Task.{Task}
 use Rattle.unroll.specs.Problem.{Unrolling, unrolled, IsProblem, signals_in, chunks_in, block_at, sig_at, chunk_at, block_of}
 use Rattle.unroll.specs.Tasks.{IsTask, IsPlaceOf, IsCellOf, CellRole, task_at, task_of, chunk_of, blocks_of, blocks_from, own_tasks, adjacent_from, adjacent_tasks}

@@ -10,12 +10,12 @@ use Rattle.sr_model.specs.declared.cells.Sig.{Sig}
 use Rattle.sr_model.specs.Netlist.{Valuation, cell_at}
 use Rattle.sr_model.specs.Closure.{passing}
 use Rattle.sr_model.specs.Dump.{dump_has, is_bit}
-use Rattle.sr_model.proofs.ClosureLaws.{sound}
-use Rattle.sr_model.proofs.Members.{map-agree}
+use Rattle.sr_model.proofs.lemmas.Laws.{sound}
+use Rattle.sr_model.proofs.lemmas.Members.{map-agree}
 use Rattle.netlist.specs.Circuit.{Circuit, IsCircuit, unrolled_over}
 use Rattle.netlist.specs.Ranks.{IsRank}
 use Rattle.netlist.specs.Wiring.{driver_at, pins_of, is_gate, is_flip_flop}
-use Rattle.netlist.proofs.Ranking.{ranks_exist}
+use Rattle.netlist.proofs.lemmas.Laws.{ranks_exist}
 use Rattle.cycle_sim.specs.Laws.{SimulationExists, SimulationsAgree, SimulationHasWhatFollows, TraceMatches, TracesAgree}
 use Rattle.cycle_sim.specs.Simulation.{IsSimulated, AgreeOnCells, AgreeOnInputs, traced_row, traced_rows}
 use Rattle.cycle_sim.proofs.Existing.{found, found-simulated}

@@ -1,6 +1,6 @@
 use Rattle.std.proofs.Common.{◌*◌, ◌^◌, ◌%◌, ◌≤◌, ◌⊎◌, ◌+◌, ◌-◌, length, get_or, false, bit_or, arith, inl, inr, ap, ◌∙◌}
 use Rattle.unroll.specs.Bits.{is_set}
-use Rattle.unroll.proofs.WordBits.{is_set_zero}
+use Rattle.unroll.proofs.lemmas.Words.{is_set_zero}
 use Rattle.cycle_sim.proofs.PackedBits.{byte-digit, earlier-more, later-more, bits-end}
 use Rattle.cycle_sim.proofs.bit_rows.packed.Goals as goal
 

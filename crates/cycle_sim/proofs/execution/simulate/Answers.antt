@@ -1,7 +1,7 @@
 use Rattle.std.proofs.Common.{◌<◌, length, subst, sym, ◌∙◌}
 use Rattle.std.specs.List.{All}
 use Rattle.sr_model.specs.declared.cells.Sig.{Sig}
-use Rattle.netlist.proofs.Marks.{signals_within}
+use Rattle.netlist.proofs.lemmas.Signals.{signals_within}
 use Rattle.cycle_sim.specs.BitTable.{bit_in}
 use Rattle.cycle_sim.specs.Simulation.{bits_of}
 use Rattle.cycle_sim.proofs.Existing.{signals-size, some-cycle, bits-agree, bits-simulated}

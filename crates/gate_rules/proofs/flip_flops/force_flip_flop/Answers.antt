@@ -5,7 +5,7 @@ use Rattle.sr_model.specs.Closure.{lit}
 use Rattle.unroll.specs.Bits.{is_set, word_for}
 use Rattle.unroll.specs.Problem.{cell_of}
 use Rattle.unroll.specs.Tasks.{task_at}
-use Rattle.unroll.proofs.WordBits.{is_set_and}
+use Rattle.unroll.proofs.lemmas.Words.{is_set_and}
 use Rattle.netlist.specs.Wiring.{driver_at}
 use Rattle.gate_rules.specs.Forced.{ForcedInCycles, view_has}
 use Rattle.gate_rules.specs.FlipFlopBits.{data_pin, is_bit_of}

@@ -1,6 +1,6 @@
 use Rattle.std.proofs.Common.{◌&&◌, sym, ap, ◌∙◌}
 use Rattle.unroll.specs.Bits.{is_set}
-use Rattle.unroll.proofs.WordBits.{is_set_zero}
+use Rattle.unroll.proofs.lemmas.Words.{is_set_zero}
 use Rattle.gate_rules.proofs.flip_flops.only_if.Goals as goal
 
 pub returns-else-condition : goal.returns-else-condition

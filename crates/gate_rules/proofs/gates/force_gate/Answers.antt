@@ -8,7 +8,7 @@ use Rattle.unroll.specs.declared.words.PinWord.{PinWord}
 use Rattle.unroll.specs.Problem.{Unrolling, block_at}
 use Rattle.unroll.specs.Bits.{is_set}
 use Rattle.unroll.specs.Tasks.{task_at}
-use Rattle.unroll.proofs.WordBits.{is_set_and}
+use Rattle.unroll.proofs.lemmas.Words.{is_set_and}
 use Rattle.gate_rules.specs.Forced.{IsForcedExactlyIn}
 use Rattle.gate_rules.proofs.GateLanes.{kind-driver, count-odd, own-block}
 use Rattle.gate_rules.proofs.GateForced.{place-within, place-at, and_like-task, parity-task}

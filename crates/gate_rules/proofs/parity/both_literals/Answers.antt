@@ -1,4 +1,4 @@
-use Rattle.unroll.proofs.WordBits.{is_set_and}
+use Rattle.unroll.proofs.lemmas.Words.{is_set_and}
 use Rattle.gate_rules.proofs.parity.both_literals.Goals as goal
 
 pub returns : goal.returns

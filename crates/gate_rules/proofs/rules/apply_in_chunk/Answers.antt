@@ -2,7 +2,7 @@ use Rattle.std.proofs.Common.{◌<◌, sym, subst}
 use Rattle.std.specs.List.{AllPairs}
 use Rattle.unroll.specs.declared.problem.Block.{Block}
 use Rattle.unroll.specs.Tasks.{task_at}
-use Rattle.unroll.proofs.TaskBlocks.{blocks-ascend}
+use Rattle.unroll.proofs.lemmas.Tasks.{blocks-ascend}
 use Rattle.gate_rules.proofs.NewLiterals.{new_exactly}
 use Rattle.gate_rules.proofs.rules.apply_in_chunk.Goals as goal
 

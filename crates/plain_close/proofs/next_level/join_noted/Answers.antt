@@ -2,7 +2,7 @@ use Rattle.std.proofs.Common.{◌≡◌, ◌<◌, ◌^◌, ap, sym, subst, ◌�
 use Rattle.unroll.specs.declared.words.PinWord.{PinWord}
 use Rattle.unroll.specs.Problem.{HasNoLaterBit}
 use Rattle.known_planes.specs.Planes.{with_words, joined}
-use Rattle.known_planes.proofs.DumpRows.{joined-none}
+use Rattle.known_planes.proofs.lemmas.Planes.{joined-none}
 use Rattle.plain_close.specs.Turns.{block_in}
 use Rattle.plain_close.proofs.NewLits.{new-lit}
 use Rattle.plain_close.proofs.Noting.{noted-first, noted-again}

@@ -3,7 +3,7 @@ use Rattle.unroll.specs.declared.words.PinWord.{PinWord}
 use Rattle.unroll.specs.Bits.{is_set, word_for}
 use Rattle.unroll.specs.Problem.{block_at, HasNoLaterBit}
 use Rattle.known_planes.specs.Planes.{with_words}
-use Rattle.known_planes.proofs.DumpRows.{joined-none}
+use Rattle.known_planes.proofs.lemmas.Planes.{joined-none}
 use Rattle.plain_close.proofs.Waking.{joins-same, joins-new, wakes-new, falls-new, same-words, other-words}
 use Rattle.plain_close.proofs.turns.join.Goals as goal
 

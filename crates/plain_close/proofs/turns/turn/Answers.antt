@@ -1,7 +1,6 @@
 use Rattle.std.proofs.Common.{sym, ◌∙◌}
-use Rattle.unroll.proofs.BlockNumbers.{block-sig}
+use Rattle.unroll.proofs.lemmas.Blocks.{block-sig, blocks-at}
 use Rattle.unroll.specs.Tasks.{task_at}
-use Rattle.unroll.proofs.BlockCells.{blocks-at}
 use Rattle.plain_close.proofs.Turning.{forced-added, has-kept}
 use Rattle.plain_close.proofs.TurnedTasks.{done-after}
 use Rattle.plain_close.proofs.turns.turn.Goals as goal

@@ -1,4 +1,4 @@
-use Rattle.known_planes.proofs.BitCounts.{tested}
+use Rattle.known_planes.proofs.lemmas.Planes.{tested}
 use Rattle.report.proofs.table.is_set.Goals as goal
 
 pub returns : goal.returns

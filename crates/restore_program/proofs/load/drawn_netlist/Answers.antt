@@ -1,7 +1,7 @@
 use Rattle.std.proofs.Common.{sym, ap, ◌∙◌}
 use Rattle.netlist.specs.Circuit.{circuit_of}
 use Rattle.cycle_sim.specs.Load.{load_statements}
-use Rattle.cycle_sim.proofs.LoadSteps.{declared-are}
+use Rattle.cycle_sim.proofs.lemmas.Loads.{declared-are}
 use Rattle.restore_program.proofs.load.drawn_netlist.Goals as goal
 
 pub returns-in-Ok-clause-circuit : goal.returns-in-Ok-clause-circuit

@@ -8,7 +8,7 @@ use Rattle.sr_model.specs.Netlist.{Instance, instance_at, cells_of, Valuation, I
 use Rattle.sr_model.specs.Closure.{Closure, LitSet, ForcesSomewhere, lit, passing}
 use Rattle.sr_model.specs.Dump.{dump_has}
 use Rattle.sr_model.specs.Worked.{traced, sig, cell, worked}
-use Rattle.sr_model.proofs.Members.{All-one}
+use Rattle.sr_model.proofs.lemmas.Members.{All-one}
 use Rattle.sr_model.proofs.ClosureLaws.{closed, has_base}
 use Rattle.sr_model.proofs.laws.worked_example.Goals as goal
 

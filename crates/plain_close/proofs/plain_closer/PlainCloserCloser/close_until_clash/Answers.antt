@@ -1,5 +1,5 @@
 use Rattle.known_planes.specs.Planes.{lits}
-use Rattle.sr_model.proofs.ClosureLaws.{monotone}
+use Rattle.sr_model.proofs.lemmas.Laws.{monotone}
 use Rattle.unroll.specs.Problem.{unrolled}
 use Rattle.plain_close.proofs.Adding.{same-closed}
 use Rattle.plain_close.proofs.plain_closer.PlainCloserCloser.close_until_clash.Goals as goal

@@ -1,0 +1,4 @@
+-- The laws of the closure, and that it is decided.
+pub use Rattle.sr_model.proofs.ClosureLaws.{ForcesSomewhere-more, closed, closed_between, forced_between, has_base, least, level-later, level_in_Closure, monotone, no_execution_has_both, same_closure, sound}
+pub use Rattle.sr_model.proofs.DecidedLevels.{closure_test}
+pub use Rattle.sr_model.proofs.FirstClash.{dump_clash_or_none}
