@@ -309,8 +309,3 @@ parity-constant u is s kind e parity = with-driver (driver_at u.circuit.drivers 
       let is_kind : k ≡ kind = cc in
       some-odd u.circuit.drivers s k pins driver (pins-within u is s.0 k pins driver)
       ∙ sym (ap is_constant driver ∙ ap (λ b. b && list_all (λ pin. not (is_odd_pin (Driven k pins) pin)) pins) (ap is_parity is_kind ∙ parity))
-
--- another kind is not
-pub other-constant : (d : Driver) → ((kind : Kind) → kind_of d ≡ Some kind → is_parity kind ≡ false) → false ≡ is_constant d
-other-constant Input none = refl
-other-constant (Driven kind pins) none = sym (ap (λ b. b && list_all (λ pin. not (is_odd_pin (Driven kind pins) pin)) pins) (none kind refl))

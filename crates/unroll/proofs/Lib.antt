@@ -1,4 +1,5 @@
 mod Masks
+mod PinWords
 mod BlockNumbers
 mod TaskBlocks
 mod TaskCells

@@ -1,7 +1,7 @@
--- Words whose lowest bits are set.
-use Rattle.std.proofs.Common.{ℕ, ◌≡◌, ◌<◌, ◌≤◌, ◌-◌, ◌*◌, ◌%◌, ◌^◌, eqb, ltb, arith, inl, inr, sym, ap, ◌∙◌}
-use Rattle.std.proofs.lemmas.Bool.{cases_lt, lt-ltb, le-ltb}
-use Rattle.std.proofs.lemmas.Nat.Bits.{bit_at_ones, bit_at_ones_above}
+-- Words whose lowest bits are set, all of them, or one.
+use Rattle.std.proofs.Common.{ℕ, ◌≡◌, ◌<◌, ◌≤◌, ◌-◌, ◌*◌, ◌%◌, ◌^◌, true, eqb, ltb, arith, inl, inr, sym, ap, ◌∙◌}
+use Rattle.std.proofs.lemmas.Bool.{cases_eq, cases_lt, lt-ltb, le-ltb, true≢false}
+use Rattle.std.proofs.lemmas.Nat.Bits.{bit_at_ones, bit_at_ones_above, bit_at-pow_same, bit_at-pow_other}
 use Rattle.std.proofs.Math.Pow.{pow-lt}
 use Rattle.std.proofs.Math.Nat.{mod-eq_of_lt}
 use Rattle.unroll.specs.Bits.{is_set}
@@ -25,5 +25,21 @@ low k i few =
     one-times n = omega arith
 
 -- all bits
+pub all-set : (i : ℕ) → i < 64 → is_set 18446744073709551615 i ≡ true
+all-set i within = ones-below 64 i ∙ lt-ltb i 64 within
+
 pub full : (k i : ℕ) → 64 ≤ k → i < 64 → is_set 18446744073709551615 i ≡ ltb i k
-full k i many h = ones-below 64 i ∙ lt-ltb i 64 h ∙ sym (lt-ltb i k (omega arith))
+full k i many within = all-set i within ∙ sym (lt-ltb i k (omega arith))
+
+-- one bit
+pub alone-set : (k : ℕ) → is_set (2 ^ k) k ≡ true
+unfolding is_set
+alone-set k = ap (λ n. eqb n 1) (bit_at-pow_same k)
+
+pub alone-only : (k i : ℕ) → is_set (2 ^ k) i ≡ true → i ≡ k
+unfolding is_set
+alone-only k i set =
+    elim (cases_eq i k) [
+      | inl same ↦ same
+      | inr other ↦ absurd (true≢false (sym set ∙ ap (λ n. eqb n 1) (bit_at-pow_other k i other)))
+    ]

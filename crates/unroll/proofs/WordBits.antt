@@ -2,9 +2,14 @@
 use Rattle.std.proofs.Common.{ℕ, zero, suc, ◌≡◌, ◌+◌, ◌-◌, ◌*◌, ◌/◌, ◌%◌, ◌<◌, ◌≤◌, ◌^◌, ◌&&◌, ◌||◌, Bool, true, false, not, eqb, arith, refl, bit_and, bit_or, bit_xor, min, max, sym, ap, ◌∙◌}
 use Rattle.std.specs.Int.{bit_at, bit_not, w64}
 use Rattle.std.proofs.lemmas.Nat.Bits.{bit_at_and, bit_at_or, bit_at_xor, bit_at_not, bit_at-lt, bit_at-zero, bit_at_above, bit_at_cat_low, bit_at_cat_high}
-use Rattle.std.proofs.lemmas.Nat.{pow_pos, div-add-mod'}
+use Rattle.std.proofs.lemmas.Nat.{pow_pos, div-add-mod', and_mask}
 use Rattle.std.proofs.Math.Nat.{mod-lt}
 use Rattle.unroll.specs.Bits.{is_set}
+
+-- the test of a bit
+pub tested : (word i : ℕ) → eqb (bit_and (word / 2 ^ i) 1) 1 ≡ is_set word i
+unfolding is_set
+tested word i = ap (λ n. eqb n 1) (and_mask (word / 2 ^ i) 1)
 
 or-digits : (a b : ℕ) → a < 2 → b < 2 → eqb (max a b) 1 ≡ (eqb a 1 || eqb b 1)
 or-digits zero zero p q = refl

@@ -1,5 +1,5 @@
 -- Words of 64 bits, a bit for each cycle of a chunk.
-use Rattle.std.specs.Prelude.{ℕ, ◌+◌, ◌*◌, ◌/◌, ◌==◌, Bool, true, false, nat_lt}
+use Rattle.std.specs.Prelude.{ℕ, ◌+◌, ◌*◌, ◌/◌, ◌==◌, Bool, true, false, bit_or, nat_lt}
 use Rattle.std.specs.Int.{bit_at}
 use Rattle.unroll.specs.declared.words.PinWord.{PinWord}
 
@@ -11,6 +11,14 @@ is_set word i = bit_at word i == 1
 abbrev pub word_for : Bool → PinWord → ℕ
 word_for true words = words.one
 word_for false words = words.zero
+
+-- no literal
+abbrev pub no_words : PinWord
+no_words = record { zero = 0; one = 0 }
+
+-- the literals of both
+abbrev pub union_of : PinWord → PinWord → PinWord
+union_of a b = record { zero = bit_or a.zero b.zero; one = bit_or a.one b.one }
 
 -- how many chunks of 64 cycles there are, the last one perhaps not full
 abbrev pub chunk_count : ℕ → ℕ

@@ -6,8 +6,9 @@ use Rattle.sr_model.specs.Netlist.{Driver, Unrolled}
 use Rattle.netlist.specs.Circuit.{Circuit, IsCircuit, unrolled_over}
 use Rattle.netlist.specs.Wiring.{driver_at, is_driven}
 use Rattle.unroll.specs.declared.problem.Block.{Block}
+use Rattle.unroll.specs.declared.problem.InChunk.{InChunk}
 use Rattle.unroll.specs.declared.words.PinWord.{PinWord}
-use Rattle.unroll.specs.Bits.{is_set, is_cycle, word_for, chunk_count}
+use Rattle.unroll.specs.Bits.{is_set, is_cycle, word_for, no_words, chunk_count}
 
 -- what contracts see of a problem
 pub record Unrolling : Type 0 where
@@ -56,6 +57,14 @@ bit_of c = c.cycle % 64
 abbrev pub cell_of : Unrolling → Block → ℕ → Cell
 cell_of u b i = record { cycle = 64 * chunk_at u b + i; sig = sig_at u b }
 
+-- the block of a signal in a chunk
+abbrev pub block_in : Unrolling → InChunk → Block
+block_in u at = block_at u at.sig at.chunk
+
+-- signal and chunk are there
+abbrev pub IsInside : Unrolling → InChunk → Type 0
+IsInside u at = (at.sig.0 < signals_in u) × (at.chunk < chunks_in u)
+
 -- what drives a block's signal
 abbrev pub driver_in : Unrolling → Block → Driver
 driver_in u b = driver_at u.circuit.drivers (sig_at u b).0
@@ -72,4 +81,4 @@ HasNoLaterBit cycles chunk words = (bit : Bool) (i : ℕ) → i < 64 → IsTrue 
 abbrev pub HaveNoLaterBit : Unrolling → List Block → List PinWord → Type 0
 HaveNoLaterBit u blocks words =
     (j : ℕ) → j < length blocks
-    → HasNoLaterBit u.cycles (chunk_at u (slice_index_or blocks j (record { 0 = 0 }))) (slice_index_or words j (record { zero = 0; one = 0 }))
+    → HasNoLaterBit u.cycles (chunk_at u (slice_index_or blocks j (record { 0 = 0 }))) (slice_index_or words j no_words)

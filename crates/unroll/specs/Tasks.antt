@@ -9,6 +9,7 @@ use Rattle.sr_model.specs.declared.cells.Place.{Place}
 use Rattle.sr_model.specs.Netlist.{Driver, Input, Driven, Instance, instance_at, cell_at, cells_of, delay}
 use Rattle.netlist.specs.Wiring.{driver_at, reads, is_driven, is_flip_flop, signals_of, signals_below, other_readers, is_odd_pin}
 use Rattle.unroll.specs.declared.problem.Block.{Block}
+use Rattle.unroll.specs.declared.problem.InChunk.{InChunk}
 use Rattle.unroll.specs.declared.problem.Task.{Task}
 use Rattle.unroll.specs.Problem.{Unrolling, unrolled, signals_in, chunks_in, blocks_in, block_at, sig_at, chunk_at, is_target}
 
@@ -19,6 +20,9 @@ target_block t = record { 0 = t.0 }
 abbrev pub task_at : Unrolling → Sig → ℕ → Task
 task_at u s chunk = record { 0 = (block_at u s chunk).0 }
 
+abbrev pub task_in : Unrolling → InChunk → Task
+task_in u at = task_at u at.sig at.chunk
+
 abbrev pub target_of : Unrolling → Task → Sig
 target_of u t = sig_at u (target_block t)
 
@@ -28,6 +32,12 @@ chunk_of u t = chunk_at u (target_block t)
 -- it is a gate or flip-flop in a chunk
 abbrev pub IsTask : Unrolling → Task → Type 0
 IsTask u t = (t.0 < blocks_in u) × (is_target u (target_block t) ≡ true)
+
+-- a gate or flip-flop drives the signal, and there is the chunk
+pub record IsTaskAt (u : Unrolling) (at : InChunk) : Type 0 where
+  pub signal : at.sig.0 < signals_in u
+  pub early : at.chunk < chunks_in u
+  pub driven : is_driven (driver_at u.circuit.drivers at.sig.0) ≡ true
 
 -- the task that the instance at a place is of: the target's, in the chunk of the place's cycle
 abbrev pub task_of : Unrolling → Place → Task

@@ -1,11 +1,11 @@
 //! The tasks that a block is in.
 ghost use Rattle.std.specs.Prelude.{◌≡◌, ◌<◌, ◌≤◌, length, slice_get, IfSome};
 ghost use Rattle.netlist.specs.Wiring.{driver_at};
-ghost use Rattle.unroll.specs.Problem.{chunks_in, blocks_in};
+ghost use Rattle.unroll.specs.Problem.{blocks_in, IsInside};
 ghost use Rattle.unroll.specs.Tasks.{IsTask, adjacent_tasks, adjacent_from, own_tasks};
 
-use crate::problem::{Block, Problem, Task};
-use sr_model::{Kind, Sig};
+use crate::problem::{Block, InChunk, Problem, Task};
+use sr_model::Kind;
 
 impl<'n> Problem<'n> {
     /// The i-th of the tasks that a block is in, counted from 0; None from `adjacent_count` on. First come those of the block's own signal, where it is driven: of a
@@ -15,7 +15,7 @@ impl<'n> Problem<'n> {
         ensures at { result ≡ slice_get (adjacent_tasks self.now b) i }
         ensures task { IfSome result (λ t. IsTask self.now t) }
     {
-        self.adjacent_in_chunk(self.sig_of(b), self.chunk_of(b), i)
+        self.adjacent_in_chunk(self.in_chunk(b), i)
     }
 
     /// How many tasks a block is in.
@@ -23,40 +23,39 @@ impl<'n> Problem<'n> {
         requires { b.0 < blocks_in self.now }
         ensures { result ≡ length (adjacent_tasks self.now b) }
     {
-        let s = self.sig_of(b);
-        self.own_count(s, self.chunk_of(b)) + self.net().other_readers(s).len() as u32
+        let at = self.in_chunk(b);
+        self.own_count(at) + self.net().other_readers(at.sig).len() as u32
     }
 
-    /// The same as `adjacent` for the block of a signal in a chunk; there is no division.
-    pub fn adjacent_in_chunk(&self, s: Sig, chunk: u32, i: u32) -> Option<Task>
-        requires signal { s.0 < length self.now.circuit.drivers }
-        requires chunk { chunk < chunks_in self.now }
-        ensures at { result ≡ slice_get (adjacent_from self.now s chunk) i }
+    /// The same as `adjacent` by signal and chunk; there is no division.
+    pub fn adjacent_in_chunk(&self, at: InChunk, i: u32) -> Option<Task>
+        requires { IsInside self.now at }
+        ensures at { result ≡ slice_get (adjacent_from self.now at.sig at.chunk) i }
         ensures task { IfSome result (λ t. IsTask self.now t) }
     {
-        let own = self.own_count(s, chunk);
+        let own = self.own_count(at);
         if i < own {
             let later = own - 1 - i;
-            return Some(self.task(s, chunk - later));
+            return Some(self.task(at.sig, at.chunk - later));
         }
-        let readers = self.net().other_readers(s);
+        let readers = self.net().other_readers(at.sig);
         let place = (i - own) as usize;
         if place < readers.len() {
-            Some(self.task(readers[place], chunk))
+            Some(self.task(readers[place], at.chunk))
         } else {
             None
         }
     }
 
     /// How many tasks of the signal itself a block of it is in.
-    fn own_count(&self, s: Sig, chunk: u32) -> u32
-        requires { s.0 < length self.now.circuit.drivers }
-        ensures count { result ≡ length (own_tasks self.now (driver_at self.now.circuit.drivers s.0) s chunk) }
+    fn own_count(&self, at: InChunk) -> u32
+        requires { at.sig.0 < length self.now.circuit.drivers }
+        ensures count { result ≡ length (own_tasks self.now (driver_at self.now.circuit.drivers at.sig.0) at.sig at.chunk) }
         ensures few { result ≤ 2 }
     {
-        match self.net().kind_of(s) {
+        match self.net().kind_of(at.sig) {
             None => 0,
-            Some(Kind::Dff) if chunk > 0 => 2,
+            Some(Kind::Dff) if at.chunk > 0 => 2,
             Some(_) => 1,
         }
     }

@@ -1,4 +1,4 @@
-//! Words whose lowest bits are set.
+//! Bits of words.
 ghost use Rattle.std.specs.Prelude.{ℕ, ◌≡◌, ◌<◌, nat_lt};
 ghost use Rattle.unroll.specs.Bits.{is_set};
 
@@ -11,4 +11,14 @@ pub(crate) fn low_bits(count: u32) -> u64
     } else {
         u64::MAX
     }
+}
+
+/// Whether bit i of the word is set.
+#[inline]
+#[tactic(auto, using(crate::proofs::WordBits::tested))]
+pub fn is_set(word: u64, i: u32) -> bool
+    requires { i < 64 }
+    ensures { result ≡ is_set word i }
+{
+    (word >> i) & 1 == 1
 }

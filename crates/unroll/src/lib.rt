@@ -12,7 +12,8 @@ mod task_blocks;
 mod tests;
 mod words;
 
+pub use bits::is_set;
 pub use laws::{block_laws, cell_laws, task_laws};
 pub use pace::{NoPace, Pace};
-pub use problem::{Block, Problem, Task};
+pub use problem::{Block, InChunk, Problem, Task};
 pub use words::{Blocks, PinWord, PinWords, Tasks};

@@ -1,12 +1,12 @@
 //! A netlist over a number of cycles, and its blocks.
-ghost use Rattle.std.specs.Prelude.{ℕ, ◌≡◌, ◌+◌, ◌*◌, ◌<◌, ◌≤◌, length};
+ghost use Rattle.std.specs.Prelude.{ℕ, ◌≡◌, ◌+◌, ◌*◌, ◌<◌, ◌≤◌, length, IsTrue};
 ghost use Rattle.unroll.specs.Bits.{is_set, is_cycle, chunk_count};
-ghost use Rattle.unroll.specs.Problem.{IsProblem, chunks_in, blocks_in, block_at, sig_at, chunk_at, is_target};
-ghost use Rattle.unroll.specs.Tasks.{task_at};
+ghost use Rattle.unroll.specs.Problem.{IsProblem, chunks_in, blocks_in, block_at, sig_at, chunk_at, is_target, IsInside};
+ghost use Rattle.unroll.specs.Tasks.{task_at, goes_on_from};
 
 use crate::bits::low_bits;
 use netlist::Netlist;
-use sr_model::Sig;
+use sr_model::{Kind, Sig};
 use std::marker::Model;
 
 /// 64 cells: signal s in the chunk c of 64 cycles has the block `s * C + c`, where C is the number of chunks.
@@ -16,6 +16,13 @@ pub struct Block(pub u32);
 /// A gate or flip-flop in a chunk of 64 cycles, by the number of its target's block. It stands for the instances of its target in these cycles.
 #[derive(Clone, Copy, Debug, PartialEq, Eq, PartialOrd, Ord, Hash)]
 pub struct Task(pub u32);
+
+/// A signal in a chunk of 64 cycles: its block, or the task of the gate or flip-flop that drives it.
+#[derive(Clone, Copy, Debug, PartialEq, Eq)]
+pub struct InChunk {
+    pub sig: Sig,
+    pub chunk: u32,
+}
 
 /// A netlist over a number of cycles. It takes no memory, and none of its calls but `constant_tasks` does.
 #[derive(Drop)]
@@ -125,6 +132,29 @@ impl<'n> Problem<'n> {
         ensures within { result < chunks_in self.now }
     {
         b.0 % self.chunks
+    }
+
+    /// The signal and chunk of a block. The calls `*_in_chunk` take them, where the same calls by number divide.
+    pub fn in_chunk(&self, b: Block) -> InChunk
+        requires { b.0 < blocks_in self.now }
+        ensures signal { result.sig ≡ sig_at self.now b }
+        ensures chunk { result.chunk ≡ chunk_at self.now b }
+        ensures inside { IsInside self.now result }
+    {
+        InChunk {
+            sig: self.sig_of(b),
+            chunk: self.chunk_of(b),
+        }
+    }
+
+    /// Whether the signal is that of a flip-flop, and there is a next chunk.
+    pub fn goes_on(&self, at: InChunk) -> bool
+        requires { IsInside self.now at }
+        ensures goes_on { result ≡ goes_on_from self.now at.sig at.chunk }
+        ensures next { IsTrue result → at.chunk + 1 < 128 }
+    {
+        let chunks = self.chunks();
+        matches!(self.net().kind_of(at.sig), Some(Kind::Dff)) && at.chunk + 1 < chunks
     }
 
     /// Whether a gate or flip-flop drives the block's signal, so that the block's number is that of a task.

@@ -1,11 +1,11 @@
 //! The blocks of a task.
-ghost use Rattle.std.specs.Prelude.{◌≡◌, ◌+◌, ◌<◌, ◌≤◌, ◌++◌, ◌∷◌, [], length, IsTrue};
-ghost use Rattle.unroll.specs.Problem.{chunks_in};
-ghost use Rattle.unroll.specs.Tasks.{IsTask, blocks_of, blocks_from, blocks_for, goes_on_from};
+ghost use Rattle.std.specs.Prelude.{◌≡◌, ◌+◌, ◌<◌, ◌≤◌, ◌++◌, ◌∷◌, [], length};
+ghost use Rattle.unroll.specs.Problem.{IsInside};
+ghost use Rattle.unroll.specs.Tasks.{IsTask, blocks_of, blocks_from, blocks_for};
 
-use crate::problem::{Block, Problem, Task};
+use crate::problem::{Block, InChunk, Problem, Task};
 use crate::words::Blocks;
-use sr_model::{Kind, NoMemory, Sig};
+use sr_model::{NoMemory, Sig};
 
 impl<'n> Problem<'n> {
     /// Replaces the list by the blocks of the task's cells, ascending, and keeps its room: those of a gate's signals in the chunk; of a flip-flop its data pin's and its own in the
@@ -17,49 +17,35 @@ impl<'n> Problem<'n> {
         ensures few { length into.new.items ≤ 1025 }
         ensures room { into.new.room ≡ into.old.room }
     {
-        let target = Block(t.0);
-        self.blocks_in_chunk(self.sig_of(target), self.chunk_of(target), into)
+        self.blocks_in_chunk(self.in_chunk(Block(t.0)), into)
     }
 
-    /// The same for the task of a target in a chunk; there is no division.
-    pub fn blocks_in_chunk(&self, target: Sig, chunk: u32, into: &mut Blocks)
-        requires signal { target.0 < length self.now.circuit.drivers }
-        requires chunk { chunk < chunks_in self.now }
+    /// The same by signal and chunk; there is no division.
+    pub fn blocks_in_chunk(&self, at: InChunk, into: &mut Blocks)
+        requires inside { IsInside self.now at }
         requires room { 1025 ≤ into.old.room }
-        ensures blocks { into.new.items ≡ blocks_from self.now target chunk }
+        ensures blocks { into.new.items ≡ blocks_from self.now at.sig at.chunk }
         ensures few { length into.new.items ≤ 1025 }
         ensures room { into.new.room ≡ into.old.room }
     {
         into.clear();
-        for signal in self.net().signals_of(target) {
-            self.push_blocks(target, chunk, *signal, into);
+        for signal in self.net().signals_of(at.sig) {
+            self.push_blocks(at, *signal, into);
         }
     }
 
     /// Adds the blocks of one of the target's signals.
-    fn push_blocks(&self, target: Sig, chunk: u32, signal: Sig, into: &mut Blocks)
-        requires target { target.0 < length self.now.circuit.drivers }
+    fn push_blocks(&self, at: InChunk, signal: Sig, into: &mut Blocks)
+        requires inside { IsInside self.now at }
         requires signal { signal.0 < length self.now.circuit.drivers }
-        requires chunk { chunk < chunks_in self.now }
-        requires room { length into.old.items + length (blocks_for self.now target chunk signal) ≤ into.old.room }
-        ensures items { into.new.items ≡ into.old.items ++ blocks_for self.now target chunk signal }
+        requires room { length into.old.items + length (blocks_for self.now at.sig at.chunk signal) ≤ into.old.room }
+        ensures items { into.new.items ≡ into.old.items ++ blocks_for self.now at.sig at.chunk signal }
         ensures room { into.new.room ≡ into.old.room }
     {
-        push_block(into, self.block(signal, chunk));
-        if signal == target && self.goes_on(target, chunk) {
-            push_block(into, self.block(signal, chunk + 1));
+        push_block(into, self.block(signal, at.chunk));
+        if signal == at.sig && self.goes_on(at) {
+            push_block(into, self.block(signal, at.chunk + 1));
         }
-    }
-
-    /// Whether the target is a flip-flop and there is a next chunk.
-    fn goes_on(&self, target: Sig, chunk: u32) -> bool
-        requires signal { target.0 < length self.now.circuit.drivers }
-        requires chunk { chunk < chunks_in self.now }
-        ensures goes_on { result ≡ goes_on_from self.now target chunk }
-        ensures next { IsTrue result → chunk + 1 < 128 }
-    {
-        let chunks = self.chunks();
-        matches!(self.net().kind_of(target), Some(Kind::Dff)) && chunk + 1 < chunks
     }
 }
 
