@@ -3,7 +3,7 @@ use Rattle.std.proofs.Common.{ℕ, zero, suc, ◌≡◌, ◌≢◌, ◌+◌, ◌
 use Rattle.std.proofs.lemmas.Bool.{cases_lt, cases_eq, cond-true, cond-false, lt-ltb, le-ltb, eq-eqb, ne_eqb}
 use Rattle.unroll.specs.declared.problem.Block.{Block}
 use Rattle.unroll.specs.declared.words.PinWord.{PinWord}
-use Rattle.unroll.specs.Bits.{is_set}
+use Rattle.unroll.specs.Bits.{is_set, no_words}
 use Rattle.unroll.proofs.lemmas.Words.{is_set_or, is_set_and, is_set_shl_low, is_set_shl_high, is_set_shr, is_set_above}
 use Rattle.gate_rules.specs.Forced.{words_of}
 use Rattle.gate_rules.specs.declared.flip_flops.CellBlocks.{CellBlocks}
@@ -21,7 +21,7 @@ words-found (d ∷ blocks) (v ∷ view) b c w (suc j) size within other here =
 
 -- and none set where no block is
 pub words-none : (blocks : List Block) (view : List PinWord) (b c : Block) → length view ≡ length blocks → ((k : ℕ) → k < length blocks → (get_or blocks k c).0 ≢ b.0)
-    → record { zero = 0; one = 0 } ≡ words_of blocks view b
+    → no_words ≡ words_of blocks view b
 words-none [] view b c size other = refl
 words-none (d ∷ blocks) [] b c size other = refl
 words-none (d ∷ blocks) (v ∷ view) b c size other =

@@ -22,14 +22,6 @@ differ_plus false y = refl
 pub set_xor : (a b lane : ℕ) (x y : Bool) → is_set a lane ≡ x → is_set b lane ≡ y → is_set (bit_xor a b) lane ≡ plus x y
 set_xor a b lane x y e f = is_set_xor a b lane ∙ differ_plus (is_set a lane) (is_set b lane) ∙ ap (λ z. plus z (is_set b lane)) e ∙ ap (plus x) f
 
--- a word whose bits are all set
-pub set_all : (lane : ℕ) → lane < 64 → is_set 18446744073709551615 lane ≡ true
-set_all lane within = is_set_not 0 lane (omega arith) within ∙ ap not (is_set_zero lane)
-
-pub neither : (x y : Bool) → (not x && not y) ≡ not (x || y)
-neither true y = refl
-neither false y = refl
-
 pub plus_comm : (x y : Bool) → plus x y ≡ plus y x
 plus_comm true true = refl
 plus_comm true false = refl

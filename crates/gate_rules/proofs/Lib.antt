@@ -1,8 +1,6 @@
 mod AndLikeForced
 mod AndLikeSet
-mod AndLikeWords
 mod BlockPlaces
-mod CycleMasks
 mod Counting
 mod FlipFlopBlocks
 mod FlipFlopForced
@@ -17,4 +15,5 @@ mod ParityExact
 mod SettledOnce
 mod TaskForcing
 mod TaskViews
+mod Words
 pub mod lemmas

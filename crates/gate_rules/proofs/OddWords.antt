@@ -6,10 +6,10 @@ use Rattle.std.proofs.lemmas.Nat.{xor_lt}
 use mathlib.Core.Bool.{beq}
 use Rattle.unroll.specs.declared.words.PinWord.{PinWord}
 use Rattle.unroll.specs.Bits.{is_set, word_for}
-use Rattle.unroll.proofs.lemmas.Words.{is_set_zero, is_set_and}
+use Rattle.unroll.proofs.lemmas.Words.{all-set, is_set_zero}
 use Rattle.gate_rules.specs.declared.parity.OddBits.{OddBits}
 use Rattle.gate_rules.specs.OddPlaces.{has_none, has_both, ones_parity, others_known, others_both, others_value, settles, IsOddBits}
-use Rattle.gate_rules.proofs.LaneWords.{set_or, set_and, set_not, set_xor, set_all, plus_comm, beq_one, beq_zero, once_step, twice_step, none_else, one_else}
+use Rattle.gate_rules.proofs.LaneWords.{set_or, set_and, set_not, set_xor, plus_comm, beq_one, beq_zero, once_step, twice_step, none_else, one_else}
 
 pub odd_bits_none : (lane : ℕ) (t : OddBits) → t.missing ≡ 0 → t.missing_twice ≡ 0 → t.both ≡ 0 → t.both_twice ≡ 0 → t.ones ≡ 0 → IsOddBits lane [] t
 odd_bits_none lane t a b c d e = record {
@@ -93,19 +93,10 @@ settled_words inverted lane pins pin known both value false within small e f g =
     (set_or both (18446744073709551615 - value) lane (others_both lane pins pin) (beq (others_value inverted lane pins pin) false) f
     (set_not value lane (others_value inverted lane pins pin) small within g ∙ beq_zero (others_value inverted lane pins pin))))
 
-pub lone_zero : (inverted : Bool) (lane : ℕ) (bit : Bool) → lane < 64 → inverted ≡ false → is_set (word_for bit (record { zero = 18446744073709551615; one = 0 })) lane ≡ beq inverted bit
-lone_zero inverted lane true within e = is_set_zero lane ∙ ap (λ b. beq b true) (sym e)
-lone_zero inverted lane false within e = set_all lane within ∙ ap (λ b. beq b false) (sym e)
-
-pub lone_one : (inverted : Bool) (lane : ℕ) (bit : Bool) → lane < 64 → inverted ≡ true → is_set (word_for bit (record { zero = 0; one = 18446744073709551615 })) lane ≡ beq inverted bit
-lone_one inverted lane true within e = set_all lane within ∙ ap (λ b. beq b true) (sym e)
-lone_one inverted lane false within e = is_set_zero lane ∙ ap (λ b. beq b false) (sym e)
-
-pub masked_words : (words : PinWord) (mask lane : ℕ) (bit : Bool)
-    → is_set (word_for bit (record { zero = bit_and words.zero mask; one = bit_and words.one mask })) lane ≡ (is_set (word_for bit words) lane && is_set mask lane)
-masked_words words mask lane true = is_set_and words.one mask lane
-masked_words words mask lane false = is_set_and words.zero mask lane
-
-pub nothing_set : (lane : ℕ) (bit : Bool) → is_set (word_for bit (record { zero = 0; one = 0 })) lane ≡ false
-nothing_set lane true = is_set_zero lane
-nothing_set lane false = is_set_zero lane
+-- the words of a target alone: it has the one literal in each cycle
+pub lone_bits : (inverted : Bool) (words : PinWord) (lane : ℕ) (bit : Bool) → word_for inverted words ≡ 18446744073709551615 → word_for (not inverted) words ≡ 0 → lane < 64
+    → is_set (word_for bit words) lane ≡ beq inverted bit
+lone_bits true words lane true own other within = ap (λ w. is_set w lane) own ∙ all-set lane within
+lone_bits true words lane false own other within = ap (λ w. is_set w lane) other ∙ is_set_zero lane
+lone_bits false words lane true own other within = ap (λ w. is_set w lane) other ∙ is_set_zero lane
+lone_bits false words lane false own other within = ap (λ w. is_set w lane) own ∙ all-set lane within
