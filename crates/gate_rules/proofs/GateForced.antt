@@ -23,7 +23,7 @@ use Rattle.unroll.specs.declared.words.PinWord.{PinWord}
 use Rattle.unroll.specs.Bits.{is_set, is_cycle, word_for}
 use Rattle.unroll.specs.Problem.{Unrolling, unrolled, IsProblem, chunks_in, block_at, sig_at, cell_of}
 use Rattle.unroll.specs.Tasks.{blocks_from, task_at}
-use Rattle.unroll.proofs.lemmas.Blocks.{block-sig, block-chunk}
+use Rattle.unroll.proofs.lemmas.Laws.{block-sig, block-chunk}
 use Rattle.unroll.proofs.lemmas.Tasks.{pin-count}
 use Rattle.gate_rules.specs.Lanes.{words_at_place, IsLane}
 use Rattle.gate_rules.specs.Forced.{ForcedInCycles, IsForcedExactlyIn, bit_at_place, lit_at_place, view_has}

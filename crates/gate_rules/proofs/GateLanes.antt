@@ -24,7 +24,7 @@ use Rattle.unroll.specs.declared.words.PinWord.{PinWord}
 use Rattle.unroll.specs.Bits.{is_set, is_cycle, word_for}
 use Rattle.unroll.specs.Problem.{Unrolling, IsProblem, signals_in, chunks_in, block_at, sig_at}
 use Rattle.unroll.specs.Tasks.{blocks_for, blocks_from}
-use Rattle.unroll.proofs.lemmas.Blocks.{block-sig}
+use Rattle.unroll.proofs.lemmas.Laws.{block-sig}
 use Rattle.unroll.proofs.lemmas.Tasks.{pin-count, blocks-ascend, has-itself, listed-signal, signal-block, signal-listed, delay-cases, pin-signal, pins-within}
 use Rattle.unroll.proofs.lemmas.FlatMaps.{signals-ascend}
 use Rattle.gate_rules.specs.Lanes.{words_at_place, IsLane}

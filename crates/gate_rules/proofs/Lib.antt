@@ -10,7 +10,6 @@ mod GateLanes
 mod KindRules
 mod LaneWords
 mod NewLiterals
-mod OddWords
 mod ParityExact
 mod SettledOnce
 mod TaskForcing

@@ -8,8 +8,8 @@ use Rattle.unroll.specs.declared.problem.Task.{Task}
 use Rattle.unroll.specs.declared.words.PinWord.{PinWord}
 use Rattle.unroll.specs.Bits.{is_set, word_for}
 use Rattle.unroll.specs.Problem.{Unrolling, chunk_at, sig_at, block_at, block_of, cell_of, HaveNoLaterBit}
-use Rattle.unroll.proofs.lemmas.Blocks.{block-itself}
-use Rattle.unroll.proofs.lemmas.Tasks.{role, cell-in_time}
+use Rattle.unroll.proofs.lemmas.Laws.{block-itself, role}
+use Rattle.unroll.proofs.lemmas.Tasks.{cell-in_time}
 use Rattle.gate_rules.specs.Lanes.{words_at_place}
 use Rattle.gate_rules.specs.Forced.{ForcedIn, ForcedInCycles, IsForcedExactly, IsForcedExactlyIn, IsNewExactly, bit_at_place, lit_at_place, view_has, words_of}
 use Rattle.gate_rules.proofs.AndLikeSet.{set_next}

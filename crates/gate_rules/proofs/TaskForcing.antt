@@ -12,7 +12,7 @@ use Rattle.unroll.specs.declared.problem.Task.{Task}
 use Rattle.unroll.specs.Problem.{Unrolling, unrolled}
 use Rattle.unroll.specs.Tasks.{IsTask, IsPlaceOf, IsCellOf, drives_itself, target_of, task_of}
 use Rattle.unroll.proofs.lemmas.Words.{alone-only, alone-set}
-use Rattle.unroll.proofs.lemmas.Tasks.{share_no_cell, each_in_one_task}
+use Rattle.unroll.proofs.lemmas.Laws.{share_no_cell, each_in_one_task}
 use Rattle.gate_rules.specs.Forced.{ForcedIn, ForcedInCycles, IsDone}
 use Rattle.gate_rules.proofs.NewLiterals.{forced-in_time}
 use Rattle.gate_rules.proofs.SettledOnce.{settled_at}

@@ -66,6 +66,7 @@ impl CellBlocks {
     }
 
     /// The same for one literal. As the flip-flop's own cell, bit 0 of `own` belongs to the chunk before, or is free.
+    #[tactic(auto, using(crate::proofs::Words::is_set_or, crate::proofs::FlipFlopWords::later, crate::proofs::FlipFlopWords::carried))]
     fn bits_for(self, block: Block, shared: u64) -> u64
         ensures { (i : ℕ) → i < 64 → is_set result i ≡ is_bit_of self block shared i }
     {
@@ -77,6 +78,7 @@ impl CellBlocks {
 }
 
 /// These bits where the condition holds, and no bit where it doesn't.
+#[tactic(auto, using(crate::proofs::Words::is_set_zero))]
 fn only_if(condition: bool, bits: u64) -> u64
     ensures { (i : ℕ) → is_set result i ≡ (condition && is_set bits i) }
 {
@@ -98,6 +100,7 @@ fn words_beside(blocks: &Blocks, view: &PinWords, block: Block) -> PinWord
 }
 
 /// A bit for each instance whose literal is known of the data pin, or of the flip-flop one cycle later.
+#[tactic(auto, using(crate::proofs::FlipFlopWords::shared_set))]
 fn shared_bits(pin: u64, own: u64, next: u64, valid: u64) -> u64
     ensures { (i : ℕ) → i < 64 → is_set result i ≡ is_shared pin own next valid i }
 {

@@ -67,6 +67,7 @@ impl OddBits {
     }
 
     /// The cycles in which each cell but this one, which is counted, has a known literal.
+    #[tactic(auto, using(crate::proofs::Words::is_set_and, crate::proofs::Words::is_set_or, crate::proofs::Words::is_set_not, crate::proofs::LaneWords::none_else))]
     fn others_known(self, pin: PinWord) -> u64
         ensures { (lane : ℕ) (pins : List PinWord) → lane < 64 → IsOddBits lane pins self → is_set result lane ≡ others_known lane pins pin }
     {
@@ -74,6 +75,7 @@ impl OddBits {
     }
 
     /// The cycles in which some cell but this one has both literals.
+    #[tactic(auto, using(crate::proofs::Words::is_set_and, crate::proofs::Words::is_set_or, crate::proofs::Words::is_set_not, crate::proofs::LaneWords::one_else))]
     fn others_both(self, pin: PinWord) -> u64
         ensures { (lane : ℕ) (pins : List PinWord) → lane < 64 → IsOddBits lane pins self → is_set result lane ≡ others_both lane pins pin }
     {
@@ -82,6 +84,7 @@ impl OddBits {
     }
 
     /// The bits that the literals 1 of the cells but this one leave it.
+    #[tactic(auto, using(crate::proofs::Words::is_set_xor, crate::proofs::LaneWords::not_xor, crate::proofs::LaneWords::plus_comm))]
     fn others_value(self, inverted: bool, pin: PinWord) -> u64
         ensures { (lane : ℕ) (pins : List PinWord) → lane < 64 → IsOddBits lane pins self → is_set result lane ≡ others_value inverted lane pins pin }
     {
@@ -90,6 +93,7 @@ impl OddBits {
     }
 
     /// The literals of a cell that counts, where another one does.
+    #[tactic(auto, using(crate::proofs::LaneWords::settled_words))]
     fn literals(self, inverted: bool, pin: PinWord) -> PinWord
         ensures { (lane : ℕ) (pins : List PinWord) (bit : Bool) → lane < 64 → IsOddBits lane pins self
             → is_set (word_for bit result) lane ≡ (is_set (word_for bit pin) lane || settles inverted lane pins pin bit) }
@@ -127,7 +131,7 @@ fn odd_bits_of(target: usize, odd: &[bool], view: &[PinWord]) -> OddBits
 }
 
 /// The literals of the target, where no pin counts: the parity of its pins is 0.
-#[tactic(auto, using(crate::proofs::OddWords::lone_bits))]
+#[tactic(auto, using(crate::proofs::LaneWords::lone_bits))]
 fn lone_literals(inverted: bool) -> PinWord
     ensures { (lane : ℕ) (bit : Bool) → lane < 64 → is_set (word_for bit result) lane ≡ beq inverted bit }
 {

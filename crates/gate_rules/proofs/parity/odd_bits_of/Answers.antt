@@ -5,13 +5,13 @@ use Rattle.gate_rules.specs.declared.parity.OddBits.{OddBits}
 use Rattle.gate_rules.specs.Lanes.{words_at_place}
 use Rattle.gate_rules.specs.OddPlaces.{counts, counting, IsOddBits}
 use Rattle.gate_rules.proofs.Counting.{counting_more, counting_same}
-use Rattle.gate_rules.proofs.OddWords.{odd_bits_none}
+use Rattle.gate_rules.proofs.LaneWords.{none_counted}
 use Rattle.gate_rules.proofs.parity.odd_bits_of.Goals as goal
 use Rattle.gate_rules.proofs.parity.odd_bits_of.Goals.{then-place_counts, else-place_counts}
 
 pub loop-j-init : goal.loop-j-init
 loop-j-init c = record {
-  tally = λ lane within. odd_bits_none lane (record { missing = 0; missing_twice = 0; both = 0; both_twice = 0; ones = 0; lone = true }) refl refl refl refl refl;
+  tally = λ lane within. none_counted lane;
   lone = refl;
 }
 
