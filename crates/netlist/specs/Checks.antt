@@ -1,6 +1,7 @@
 -- The rules that statements must keep to be a netlist, and what is said of a refusal.
 use Rattle.std.specs.Prelude.{ℕ, ◌≡◌, ◌≢◌, ◌≤◌, List, [], ◌∷◌, ◌++◌, map, length, Contains, Some, slice_get}
 use Rattle.std.specs.List.{flat_map, All, AllPairs}
+use Rattle.sr_model.specs.Limits.{max_signals, max_pins}
 use Rattle.sr_model.specs.Declaration.{Declaration}
 use Rattle.netlist.specs.declared.checks.NetRefusal.{NetRefusal}
 use Rattle.netlist.specs.declared.checks.NetRefusal.TheVariants.{TooManySignals, TooManyPins, TwoDrivers, NoDriver, Loop, NoMemory}
@@ -8,13 +9,13 @@ use Rattle.sr_model.specs.declared.cells.Sig.{Sig}
 use Rattle.netlist.specs.Loops.{IsLoop}
 use Rattle.netlist.specs.Numbering.{driven_name, pin_names, names_of, drivers_of, place_in}
 
--- there are 65,536 names at most
+-- there are `max_signals` names at most
 abbrev pub HasFewSignals : List Declaration → Type 0
-HasFewSignals ds = length (names_of ds) ≤ 65536
+HasFewSignals ds = length (names_of ds) ≤ max_signals
 
--- there are 1,048,576 pins at most, counted as often as they stand
+-- there are `max_pins` pins at most, counted as often as they stand
 abbrev pub HasFewPins : List Declaration → Type 0
-HasFewPins ds = length (flat_map pin_names ds) ≤ 1048576
+HasFewPins ds = length (flat_map pin_names ds) ≤ max_pins
 
 -- no name is driven twice
 abbrev pub IsDrivenOnce : List Declaration → Type 0

@@ -1,6 +1,7 @@
 -- What contracts see of a netlist, and the netlist that statements stand for.
 use Rattle.std.specs.Prelude.{ℕ, ◌≡◌, ◌≢◌, ◌<◌, ◌≤◌, ◌↔◌, List, length, Some}
 use Rattle.std.specs.List.{All, AllPairs, Contains, slice_get}
+use Rattle.sr_model.specs.Limits.{max_signals, max_pins}
 use Rattle.sr_model.specs.declared.cells.Sig.{Sig}
 use Rattle.sr_model.specs.Declaration.{Declaration}
 use Rattle.sr_model.specs.Netlist.{Driver, Input, Unrolled}
@@ -26,8 +27,8 @@ pub record IsCircuit (c : Circuit) : Type 0 where
   pub one_name_each : length c.names ≡ length c.drivers
   pub are_names : All IsSignalName c.names
   pub distinct : (i j : ℕ) (name : List ℕ) → slice_get c.names i ≡ Some name → slice_get c.names j ≡ Some name → i ≡ j
-  pub few_signals : length c.drivers ≤ 65536
-  pub few_pins : pin_sum c.drivers ≤ 1048576
+  pub few_signals : length c.drivers ≤ max_signals
+  pub few_pins : pin_sum c.drivers ≤ max_pins
   pub wired : IsWired c.drivers
   pub pin_counts : HasPinCounts c.drivers
   pub no_loop : HasNoLoop c.drivers

@@ -1,6 +1,7 @@
 -- What the flat arrays of a netlist hold.
 use Rattle.std.specs.Prelude.{ℕ, ◌≡◌, ◌<◌, ◌≤◌, Bool, List, [], length, slice_index_or}
 use Rattle.std.specs.List.{All}
+use Rattle.sr_model.specs.Limits.{max_signals}
 use Rattle.sr_model.specs.declared.cells.Sig.{Sig}
 use Rattle.netlist.specs.declared.wiring.Node.{Node}
 use Rattle.netlist.specs.Entries.{AreMarksOf}
@@ -14,7 +15,7 @@ pub record AreListsOf (count : ℕ) (lists : List (List Sig)) (list_of : Sig →
 
 -- the nodes and pins are a netlist's, and the readers, the other readers, the signals and the parities of each signal and the flip-flops are those of its drivers
 pub record IsIndexed (pins : List Sig) (nodes : List Node) (reader_lists other_lists signal_lists : List (List Sig)) (parities : List Bool) (flip_flop_list : List Sig) : Type 0 where
-  pub few : length nodes ≤ 65536
+  pub few : length nodes ≤ max_signals
   pub within : All (IsNodeWithin (length pins)) nodes
   pub wired : All (λ pin. pin.0 < length nodes) pins
   pub all_readers : AreListsOf (length nodes) reader_lists (readers (drivers_from pins nodes))

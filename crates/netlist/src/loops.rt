@@ -1,6 +1,7 @@
 //! Loops through gates.
 ghost use Rattle.std.specs.Prelude.{ℕ, ◌≡◌, ◌≤◌, length, replicate, slice_index_or, None, true, false, IfOk, MatchResult};
 ghost use Rattle.std.specs.List.{All, Contains};
+ghost use Rattle.sr_model.specs.Limits.{max_signals};
 ghost use Rattle.netlist.specs.Wiring.{IsWired};
 ghost use Rattle.netlist.specs.Ranks.{IsOrder};
 ghost use Rattle.netlist.specs.Loops.{HasNoLoop, IsLeastFed, IsLoop, IsNext};
@@ -68,7 +69,7 @@ fn no_steps(alloc: Global, count: usize) -> Result<Vec<Option<u32>>, NoMemory>
 /// The first signal with a mark.
 fn least_marked(fed: &[bool]) -> Sig
     requires some { Contains fed.now true }
-    requires few { length fed.now ≤ 65536 }
+    requires few { length fed.now ≤ max_signals }
     ensures marked { slice_index_or fed.now result.0 false ≡ true }
     ensures least { (s : ℕ) → slice_index_or fed.now s false ≡ true → result.0 ≤ s }
 {

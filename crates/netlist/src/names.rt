@@ -1,6 +1,7 @@
 //! The names of a netlist, each once, with their numbers.
 ghost use Rattle.std.specs.Prelude.{◌≡◌, ◌+◌, ◌^◌, ◌<◌, ◌≤◌, [], ◌∷◌, ◌++◌, length, map, Contains, slice_get, Some, IfOk, OnOk, OnErr};
 ghost use Rattle.std.specs.Option.{SomeIff};
+ghost use Rattle.sr_model.specs.Limits.{max_gate_pins, max_signals};
 ghost use Rattle.sr_model.specs.Room.{texts};
 ghost use Rattle.sr_model.specs.Declaration.{declaration_of};
 ghost use Rattle.netlist.specs.Numbering.{once, mentions, pin_names, sig_in};
@@ -93,8 +94,8 @@ impl NameTable {
         firsts: &mut Sigs,
         pins: &mut Sigs,
     ) -> Result<(), NoMemory>
-        requires few { length self.old ≤ 65536 }
-        requires pins { length (pin_names (declaration_of statement.now)) ≤ 1024 }
+        requires few { length self.old ≤ max_signals }
+        requires pins { length (pin_names (declaration_of statement.now)) ≤ max_gate_pins }
         ensures names { OnOk result (self.new ≡ once (self.old ++ mentions (declaration_of statement.now))) }
         ensures firsts { OnOk result (firsts.new.items ≡ firsts.old.items ++ sig_in self.new (first_mention (declaration_of statement.now)) ∷ []) }
         ensures pins { OnOk result (pins.new.items ≡ pins.old.items ++ map (sig_in self.new) (pin_names (declaration_of statement.now))) }
@@ -118,7 +119,7 @@ impl NameTable {
 
     /// The signal of a name. It takes no memory, and time in the bytes of the name.
     pub(crate) fn find(&self, name: &[u8]) -> Option<Sig>
-        requires { length self.now ≤ 65536 }
+        requires { length self.now ≤ max_signals }
         ensures { SomeIff result (Contains self.now name.now) (sig_in self.now name.now) }
     {
         let number = self.names.get_index_of(name)?;

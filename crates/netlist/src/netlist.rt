@@ -1,5 +1,6 @@
 //! A netlist that keeps all rules.
 ghost use Rattle.std.specs.Prelude.{◌≡◌, ◌<◌, ◌≤◌, length, slice_get, Some, IfSome, IsNone, IfOk, IfErr, OnOk, All, Contains};
+ghost use Rattle.sr_model.specs.Limits.{max_gate_signals, max_signals};
 ghost use Rattle.sr_model.specs.Declaration.{declared, declarations_of};
 ghost use Rattle.netlist.specs.Checks.{IsRefusal};
 ghost use Rattle.netlist.specs.Circuit.{IsCircuit, IsNetlist, circuit_of};
@@ -71,7 +72,7 @@ impl Netlist {
     /// How many signals there are.
     pub fn signals(&self) -> u32
         ensures count { result ≡ length self.now.drivers }
-        ensures few { result ≤ 65536 }
+        ensures few { result ≤ max_signals }
         ensures circuit { IsCircuit self.now }
     {
         self.wiring.signals()
@@ -151,7 +152,7 @@ impl Netlist {
     pub fn signals_of(&self, s: Sig) -> &[Sig]
         requires { s.0 < length self.now.drivers }
         ensures signals { result.now ≡ signals_of self.now.drivers s }
-        ensures few { length result.now ≤ 1025 }
+        ensures few { length result.now ≤ max_gate_signals }
     {
         self.wiring.signals_of(s)
     }

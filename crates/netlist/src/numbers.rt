@@ -1,6 +1,7 @@
 //! Numbers the names of a netlist's text by their first mentions, and finds what drives each.
 ghost use Rattle.std.specs.Prelude.{◌≡◌, ◌<◌, ◌≤◌, [], ◌∷◌, map, length, All, IfOk, IfErr, OnOk, Some, if◌then◌else◌};
 ghost use Rattle.std.specs.List.{flat_map};
+ghost use Rattle.sr_model.specs.Limits.{max_pins, max_signals};
 ghost use Rattle.sr_model.specs.Declaration.{declared, declarations_of, declaration_of};
 ghost use Rattle.netlist.specs.Numbering.{names_of, sig_in, sig_of, driven_name, pin_names, inputs_of, outputs_of, pins_of, drivers_of, HasPinCount};
 ghost use Rattle.netlist.specs.Mentions.{first_mention};
@@ -11,12 +12,8 @@ ghost use Rattle.netlist.specs.Nodes.{driver_of, drivers_from, IsNodeWithin};
 use crate::checks::NetRefusal;
 use crate::names::{NameTable, to_bytes};
 use crate::wiring::Node;
-use sr_model::{NoMemory, Sequence, Sig, Sigs, Statement, Statements};
+use sr_model::{MAX_PINS, MAX_SIGNALS, NoMemory, Sequence, Sig, Sigs, Statement, Statements};
 use std::alloc::Global;
-
-const MAX_SIGNALS: usize = 65_536;
-
-const MAX_PINS: usize = 1_048_576;
 
 /// The names of a text, each with its number, and what its statements say of their signals.
 #[derive(Drop)]
@@ -248,8 +245,8 @@ pub(crate) fn number(alloc: Global, s: &Statements) -> Result<Numbering, NetRefu
     ensures drivers { IfOk result (λ n. drivers_from n.pins.items n.nodes.items ≡ drivers_of (declared s.now)) }
     ensures inputs { IfOk result (λ n. n.inputs.items ≡ inputs_of (declared s.now)) }
     ensures outputs { IfOk result (λ n. n.outputs.items ≡ outputs_of (declared s.now)) }
-    ensures signals { IfOk result (λ n. (length n.nodes.items ≡ length n.names) × (length n.names ≤ 65536)) }
-    ensures pins { IfOk result (λ n. (length n.pins.items ≤ 1048576) × All (λ pin. pin.0 < length n.names) n.pins.items) }
+    ensures signals { IfOk result (λ n. (length n.nodes.items ≡ length n.names) × (length n.names ≤ max_signals)) }
+    ensures pins { IfOk result (λ n. (length n.pins.items ≤ max_pins) × All (λ pin. pin.0 < length n.names) n.pins.items) }
     ensures nodes { IfOk result (λ n. All (IsNodeWithin (length n.pins.items)) n.nodes.items) }
     ensures refused { IfErr result (IsRefusal (declarations_of s.now)) }
 {

@@ -1,6 +1,7 @@
 //! Which signals stand an odd number of times among the pins of each gate and flip-flop.
 ghost use Rattle.std.specs.Prelude.{ℕ, ◌≡◌, ◌<◌, ◌≤◌, ◌++◌, if◌then◌else◌, true, false, length, map, slice_index_or, IfOk, OnOk};
 ghost use Rattle.std.specs.List.{All};
+ghost use Rattle.sr_model.specs.Limits.{max_signals};
 ghost use Rattle.netlist.specs.Wiring.{signals_of, pin_parities};
 ghost use Rattle.netlist.specs.Nodes.{IsNodeWithin, drivers_from};
 ghost use Rattle.netlist.specs.Entries.{has_sig, is_odd_in, AreMarksOf};
@@ -22,7 +23,7 @@ pub(crate) fn parities_beside(
 ) -> Result<Vec<bool>, NoMemory>
     requires nodes { All (IsNodeWithin (length pins.now)) nodes.now }
     requires pins { All (λ pin. pin.0 < length nodes.now) pins.now }
-    requires few { length nodes.now ≤ 65536 }
+    requires few { length nodes.now ≤ max_signals }
     requires signals { AreListsOf (length nodes.now) signal_lists.now (signals_of (drivers_from pins.now nodes.now)) }
     ensures { IfOk result (λ marks. AreMarksOf signal_lists.now marks.items (pin_parities (drivers_from pins.now nodes.now))) }
 {

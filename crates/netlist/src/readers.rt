@@ -1,6 +1,7 @@
 //! The readers of each signal.
 ghost use Rattle.std.specs.Prelude.{ℕ, ◌≡◌, ◌<◌, ◌≤◌, ◌==◌, not, length, IfOk};
 ghost use Rattle.std.specs.List.{All, filter};
+ghost use Rattle.sr_model.specs.Limits.{max_signals};
 ghost use Rattle.netlist.specs.Wiring.{readers};
 ghost use Rattle.netlist.specs.Nodes.{IsNodeWithin, drivers_from};
 ghost use Rattle.netlist.specs.Entries.{items_in};
@@ -20,7 +21,7 @@ pub(crate) fn reader_entries(
 ) -> Result<Sequence<Entry>, NoMemory>
     requires nodes { All (IsNodeWithin (length pins.now)) nodes.now }
     requires pins { All (λ pin. pin.0 < length nodes.now) pins.now }
-    requires few { length nodes.now ≤ 65536 }
+    requires few { length nodes.now ≤ max_signals }
     ensures readers { IfOk result (λ found. (s : ℕ) → items_in found.items s ≡ readers (drivers_from pins.now nodes.now) (record { 0 = s })) }
     ensures pins { IfOk result (λ found. All (λ r. r.list.0 < length nodes.now) found.items) }
 {

@@ -1,6 +1,7 @@
 //! The signals of each gate and flip-flop.
 ghost use Rattle.std.specs.Prelude.{ℕ, ◌≡◌, ◌<◌, ◌≤◌, ◌++◌, ◌∷◌, [], if◌then◌else◌, length, IfOk, OnOk};
 ghost use Rattle.std.specs.List.{All};
+ghost use Rattle.sr_model.specs.Limits.{max_signals};
 ghost use Rattle.netlist.specs.Wiring.{readers, signals_of, is_driven};
 ghost use Rattle.netlist.specs.Nodes.{drivers_from, driver_by};
 ghost use Rattle.netlist.specs.Entries.{items_in};
@@ -22,7 +23,7 @@ pub(crate) fn signal_entries(
     reader_lists: &SigLists,
 ) -> Result<Sequence<Entry>, NoMemory>
     requires readers { AreListsOf (length nodes.now) reader_lists.now (readers (drivers_from pins.now nodes.now)) }
-    requires few { length nodes.now ≤ 65536 }
+    requires few { length nodes.now ≤ max_signals }
     ensures signals { IfOk result (λ found. (t : ℕ) → items_in found.items t ≡ signals_of (drivers_from pins.now nodes.now) (record { 0 = t })) }
     ensures lists { IfOk result (λ found. All (λ r. r.list.0 < length nodes.now) found.items) }
 {

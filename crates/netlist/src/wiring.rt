@@ -1,6 +1,7 @@
 //! The pins and readers of each signal in flat arrays.
 ghost use Rattle.std.specs.Prelude.{◌≡◌, ◌<◌, ◌≤◌, List, length, IfOk};
 ghost use Rattle.std.specs.List.{All};
+ghost use Rattle.sr_model.specs.Limits.{max_signals};
 ghost use Rattle.netlist.specs.Wiring.{driver_at, kind_of, pins_of, readers, other_readers, signals_of, pin_parities, flip_flops, is_flip_flop, IsWired};
 ghost use Rattle.netlist.specs.Nodes.{IsNodeWithin, driver_of, drivers_from};
 ghost use Rattle.sr_model.specs.declared.cells.Sig.{Sig as AnySig};
@@ -63,7 +64,7 @@ impl Wiring {
     pub(crate) fn new(alloc: Global, nodes: Vec<Node>, pins: Vec<Sig>) -> Result<Wiring, NoMemory>
         requires nodes { All (IsNodeWithin (length pins.items)) nodes.items }
         requires pins { All (λ pin. pin.0 < length nodes.items) pins.items }
-        requires few { length nodes.items ≤ 65536 }
+        requires few { length nodes.items ≤ max_signals }
         ensures { IfOk result (λ w. w ≡ drivers_from pins.items nodes.items) }
     {
         let flip_flop_sigs = flip_flops_of(alloc, &nodes)?;
@@ -89,7 +90,7 @@ impl Wiring {
     /// How many signals there are.
     pub(crate) fn signals(&self) -> u32
         ensures count { result ≡ length self.now }
-        ensures few { result ≤ 65536 }
+        ensures few { result ≤ max_signals }
         ensures wired { IsWired self.now }
     {
         self.nodes.len() as u32
@@ -162,7 +163,7 @@ pub(crate) fn pins_at(node: Node, pins: &[Sig]) -> &[Sig]
 
 /// The signals that a flip-flop drives, ascending.
 fn flip_flops_of(alloc: Global, nodes: &[Node]) -> Result<Vec<Sig>, NoMemory>
-    requires few { length nodes.now ≤ 65536 }
+    requires few { length nodes.now ≤ max_signals }
     ensures { IfOk result (λ sigs. (pins : List AnySig) → sigs.items ≡ flip_flops (drivers_from pins nodes.now)) }
 {
     let mut sigs = Sequence::new(alloc);

@@ -1,6 +1,7 @@
 -- What a gate does with the bits of its pins.
 use Rattle.std.specs.Prelude.{ℕ, ◌≡◌, ◌≤◌, ◌%◌, ◌==◌, Bool, false, not, List, [], ◌∷◌}
 use Rattle.std.specs.List.{count_by, list_all, list_any}
+use Rattle.sr_model.specs.Limits.{max_gate_pins}
 use Rattle.sr_model.specs.declared.gates.Kind.{Kind}
 use Rattle.sr_model.specs.declared.gates.Kind.TheVariants.{And, Nand, Or, Nor, Xor, Xnor, Not, Buf, Dff}
 
@@ -36,4 +37,4 @@ abbrev pub IsPinCount : Kind → ℕ → Type 0
 IsPinCount Not n = n ≡ 1
 IsPinCount Buf n = n ≡ 1
 IsPinCount Dff n = n ≡ 1
-IsPinCount _ n = (1 ≤ n) × (n ≤ 1024)
+IsPinCount _ n = (1 ≤ n) × (n ≤ max_gate_pins)

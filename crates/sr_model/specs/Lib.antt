@@ -5,6 +5,7 @@ pub mod Declaration
 pub mod Dump
 pub mod Gate
 pub mod Laws
+pub mod Limits
 pub mod Netlist
 pub mod Order
 pub mod Room

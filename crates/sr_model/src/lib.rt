@@ -6,6 +6,7 @@
 mod cells;
 mod gates;
 mod laws;
+mod limits;
 mod lists;
 mod statements;
 #[cfg(test)]
@@ -17,5 +18,6 @@ pub use laws::{
     closure_laws, decision_laws, forcing_laws, growing_laws, missed_example, soundness_laws,
     worked_example,
 };
+pub use limits::{MAX_BLOCKS, MAX_CYCLES, MAX_GATE_PINS, MAX_GATE_SIGNALS, MAX_PINS, MAX_SIGNALS};
 pub use lists::{Bytes, Lits, Names, NoMemory, Sequence, Sigs, Statements};
 pub use statements::{Numbered, Statement};
