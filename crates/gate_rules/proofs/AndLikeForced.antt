@@ -14,7 +14,7 @@ use Rattle.sr_model.proofs.lemmas.AndRules.{bit_cases, target_t-exact, target_ot
 use Rattle.unroll.specs.declared.words.PinWord.{PinWord}
 use Rattle.unroll.specs.Bits.{is_set, word_for}
 use Rattle.gate_rules.specs.Lanes.{IsLane}
-use Rattle.gate_rules.specs.AndLikeBits.{has_literal, IsCounted}
+use Rattle.gate_rules.specs.AndLikeBits.{has_literal, ArePinBits}
 
 -- a bit that says that a literal is known or that something holds, where the literal is forced in these cases alone
 pub known_or_new : (bit has new valid is_known : Bool) (F New : Type 0) → bit ≡ ((has || new) && valid) → valid ≡ true → has ≡ is_known
@@ -61,7 +61,7 @@ module _ (p t : Bool) (target : ℕ) (words : List PinWord) (lane : ℕ) (i : In
       let place : (j : ℕ) × (j < length cells) × (j ≢ target) × (get_or cells j c ≡ c) = at.each_pin c h in
       (place.0, place.1, place.2, place.3, at.says place.0 c bit place.1 ∙ ap (λ x. known (lit x bit)) place.3)
 
-  module _ (lacking lacking_two other valid : Bool) (counted : IsCounted (has_literal words lane p) (has_literal words lane (not p)) target (length words) lacking lacking_two other)
+  module _ (lacking lacking_two other valid : Bool) (counted : ArePinBits (has_literal words lane p) (has_literal words lane (not p)) target (length words) lacking lacking_two other)
       (is_valid : valid ≡ true) where
     all_pins : (not lacking ≡ true) ↔ ((c : Cell) → Contains i.pins c → known (lit c p) ≡ true)
     all_pins = (

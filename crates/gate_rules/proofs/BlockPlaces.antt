@@ -4,12 +4,12 @@ use Rattle.std.specs.List.{AllPairs, flat_map}
 use Rattle.std.proofs.lemmas.Bool.{cond-true, cond-false, eq-eqb, ne_eqb}
 use Rattle.unroll.specs.declared.problem.Block.{Block}
 use Rattle.unroll.specs.declared.words.PinWord.{PinWord}
-use Rattle.gate_rules.specs.Lanes.{words_at}
+use Rattle.gate_rules.specs.Lanes.{words_at_place}
 use Rattle.gate_rules.specs.Forced.{words_of}
 
 -- where the blocks have distinct numbers, the words at a place are those of the block there
 pub words_of-place : (blocks : List Block) (words : List PinWord) → AllPairs (λ a b. a.0 < b.0) blocks → length words ≡ length blocks
-    → (j : ℕ) (d : Block) → j < length blocks → words_of blocks words (get_or blocks j d) ≡ words_at words j
+    → (j : ℕ) (d : Block) → j < length blocks → words_of blocks words (get_or blocks j d) ≡ words_at_place words j
 words_of-place [] words up size j d h = absurd (omega arith)
 words_of-place (b ∷ blocks) [] up size j d h = absurd (omega arith)
 words_of-place (b ∷ blocks) (w ∷ words) up size zero d h = cond-true (eqb b.0 b.0) w (words_of blocks words b) (eq-eqb b.0 b.0 refl)

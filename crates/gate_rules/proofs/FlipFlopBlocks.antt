@@ -13,7 +13,7 @@ use Rattle.unroll.specs.declared.words.PinWord.{PinWord}
 use Rattle.unroll.specs.Bits.{is_set, is_cycle, word_for}
 use Rattle.unroll.specs.Problem.{Unrolling, chunks_in, block_at, sig_at, chunk_at, cell_of}
 use Rattle.unroll.specs.Tasks.{task_at}
-use Rattle.unroll.proofs.lemmas.Blocks.{block-sig, block-chunk, block-itself, cycle-chunk}
+use Rattle.unroll.proofs.lemmas.Laws.{block-sig, block-chunk, block-itself, cycle-chunk}
 use Rattle.gate_rules.specs.declared.flip_flops.CellBlocks.{CellBlocks}
 use Rattle.gate_rules.specs.Forced.{ForcedInCycles, words_of, view_has}
 use Rattle.gate_rules.specs.FlipFlopBits.{is_set_after, is_shared, is_bit_of}

@@ -21,7 +21,7 @@ use Rattle.netlist.specs.Wiring.{driver_at, is_flip_flop, HasPinCount}
 use Rattle.unroll.specs.Bits.{is_set}
 use Rattle.unroll.specs.Problem.{Unrolling, unrolled, IsProblem, signals_in, chunks_in}
 use Rattle.unroll.specs.Tasks.{task_at}
-use Rattle.unroll.proofs.lemmas.Blocks.{block-sig, block-chunk}
+use Rattle.unroll.proofs.lemmas.Laws.{block-sig, block-chunk}
 use Rattle.gate_rules.specs.Forced.{ForcedInCycles}
 use Rattle.gate_rules.specs.FlipFlopBits.{data_pin}
 

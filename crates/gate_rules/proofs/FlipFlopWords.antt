@@ -3,7 +3,7 @@ use Rattle.std.proofs.Common.{ℕ, zero, suc, ◌≡◌, ◌≢◌, ◌+◌, ◌
 use Rattle.std.proofs.lemmas.Bool.{cases_lt, cases_eq, cond-true, cond-false, lt-ltb, le-ltb, eq-eqb, ne_eqb}
 use Rattle.unroll.specs.declared.problem.Block.{Block}
 use Rattle.unroll.specs.declared.words.PinWord.{PinWord}
-use Rattle.unroll.specs.Bits.{is_set}
+use Rattle.unroll.specs.Bits.{is_set, no_words}
 use Rattle.unroll.proofs.lemmas.Words.{is_set_or, is_set_and, is_set_shl_low, is_set_shl_high, is_set_shr, is_set_above}
 use Rattle.gate_rules.specs.Forced.{words_of}
 use Rattle.gate_rules.specs.declared.flip_flops.CellBlocks.{CellBlocks}
@@ -21,7 +21,7 @@ words-found (d ∷ blocks) (v ∷ view) b c w (suc j) size within other here =
 
 -- and none set where no block is
 pub words-none : (blocks : List Block) (view : List PinWord) (b c : Block) → length view ≡ length blocks → ((k : ℕ) → k < length blocks → (get_or blocks k c).0 ≢ b.0)
-    → record { zero = 0; one = 0 } ≡ words_of blocks view b
+    → no_words ≡ words_of blocks view b
 words-none [] view b c size other = refl
 words-none (d ∷ blocks) [] b c size other = refl
 words-none (d ∷ blocks) (v ∷ view) b c size other =
@@ -56,26 +56,16 @@ shared_set pin own next valid i small within =
     ∙ ap (λ b. is_set pin i || b) (is_set_or (own / 2 ^ 1) (next * 2 ^ 63 % 2 ^ 64) i ∙ after own next i small within))
 
 -- one cycle later in the same chunk, and in the next one
-later : (a i : ℕ) → i < 64 → is_set (a * 2 ^ 1 % 2 ^ 64) i ≡ (ltb 0 i && is_set a (i - 1))
+pub later : (a i : ℕ) → i < 64 → is_set (a * 2 ^ 1 % 2 ^ 64) i ≡ (ltb 0 i && is_set a (i - 1))
 later a i within =
     elim (cases_lt 0 i) [
       | inl above ↦ is_set_shl_high a 1 i within above ∙ ap (λ b. b && is_set a (i - 1)) (sym (lt-ltb 0 i above))
       | inr first ↦ is_set_shl_low a 1 i within (omega arith) ∙ ap (λ b. b && is_set a (i - 1)) (sym (le-ltb 0 i first))
     ]
 
-carried : (a i : ℕ) → a < 2 ^ 64 → is_set (a / 2 ^ 63) i ≡ (eqb i 0 && is_set a 63)
+pub carried : (a i : ℕ) → a < 2 ^ 64 → is_set (a / 2 ^ 63) i ≡ (eqb i 0 && is_set a 63)
 carried a i small =
     elim (cases_eq i 0) [
       | inl first ↦ is_set_shr a 63 i ∙ ap (λ n. is_set a (n + 63)) first ∙ ap (λ b. b && is_set a 63) (sym (eq-eqb i 0 first))
       | inr above ↦ is_set_shr a 63 i ∙ is_set_above a (i + 63) small (omega arith) ∙ ap (λ b. b && is_set a 63) (sym (ne_eqb i 0 above))
     ]
-
--- the bits that a block has of a word
-pub block_set : (cells : CellBlocks) (b : Block) (shared pin own next i : ℕ) → shared < 2 ^ 64 → i < 64 → is_set pin i ≡ (eqb b.0 cells.pin.0 && is_set shared i)
-    → is_set own i ≡ (eqb b.0 cells.own.0 && is_set (shared * 2 % 18446744073709551616) i) → is_set next i ≡ (eqb b.0 cells.next.0 && is_set (shared / 9223372036854775808) i)
-    → is_set (bit_or pin (bit_or own next)) i ≡ is_bit_of cells b shared i
-block_set cells b shared pin own next i small within is_pin is_own is_next =
-    is_set_or pin (bit_or own next) i ∙ ap (λ x. x || is_set (bit_or own next) i) is_pin
-    ∙ ap (λ x. (eqb b.0 cells.pin.0 && is_set shared i) || x) (is_set_or own next i
-    ∙ ap (λ x. x || is_set next i) (is_own ∙ ap (λ x. eqb b.0 cells.own.0 && x) (later shared i within))
-    ∙ ap (λ x. (eqb b.0 cells.own.0 && (ltb 0 i && is_set shared (i - 1))) || x) (is_next ∙ ap (λ x. eqb b.0 cells.next.0 && x) (carried shared i small)))

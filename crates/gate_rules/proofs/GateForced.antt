@@ -23,9 +23,9 @@ use Rattle.unroll.specs.declared.words.PinWord.{PinWord}
 use Rattle.unroll.specs.Bits.{is_set, is_cycle, word_for}
 use Rattle.unroll.specs.Problem.{Unrolling, unrolled, IsProblem, chunks_in, block_at, sig_at, cell_of}
 use Rattle.unroll.specs.Tasks.{blocks_from, task_at}
-use Rattle.unroll.proofs.lemmas.Blocks.{block-sig, block-chunk}
+use Rattle.unroll.proofs.lemmas.Laws.{block-sig, block-chunk}
 use Rattle.unroll.proofs.lemmas.Tasks.{pin-count}
-use Rattle.gate_rules.specs.Lanes.{words_at, IsLane}
+use Rattle.gate_rules.specs.Lanes.{words_at_place, IsLane}
 use Rattle.gate_rules.specs.Forced.{ForcedInCycles, IsForcedExactlyIn, bit_at_place, lit_at_place, view_has}
 use Rattle.gate_rules.proofs.GateLanes.{gate-delay, lane_place, lane_cells, count, block-here, cell-there, count-cells, two-cells, gate-lane, odd-there}
 
@@ -144,7 +144,7 @@ module _ (u : Unrolling) (is : IsProblem u) (target : Sig) (chunk : ℕ) (early 
         ]
 
     module _ (valid : ℕ) (valid_is : (i : ℕ) → i < 64 → is_set valid i ≡ (is_cycle u.cycles chunk i && is_set mask i))
-        (invalid : (lane j : ℕ) (bit : Bool) → lane < 64 → is_set valid lane ≡ false → is_set (word_for bit (words_at words j)) lane ≡ false) where
+        (invalid : (lane j : ℕ) (bit : Bool) → lane < 64 → is_set valid lane ≡ false → is_set (word_for bit (words_at_place words j)) lane ≡ false) where
       pins-count : (i : ℕ) → IsPinCount kind (length (map (cell_at (64 * chunk + i)) pins))
       pins-count i = subst (IsPinCount kind) (sym (length-map pins (cell_at (64 * chunk + i)))) (pin-count u is kind pins (lane_place target chunk i) driver)
 
@@ -158,7 +158,7 @@ module _ (u : Unrolling) (is : IsProblem u) (target : Sig) (chunk : ℕ) (early 
       pub and_like-task : (p t : Bool) → ((i : Instance) → i.kind ≡ kind → IsPinCount kind (length i.pins) → IsAndLike p t i)
           → ((lane : ℕ) (i : Instance) (cells : List Cell) (known : Lit → Bool) → lane < 64 → is_set valid lane ≡ true → IsAndLike p t i → 2 ≤ length cells
           → IsLane i cells k known lane view → (j : ℕ) (d : Cell) (bit : Bool) → j < length cells
-          → IsTrue (is_set (word_for bit (words_at words j)) lane) ↔ Forces i (passing known) (lit (get_or cells j d) bit))
+          → IsTrue (is_set (word_for bit (words_at_place words j)) lane) ↔ Forces i (passing known) (lit (get_or cells j d) bit))
           → IsForcedExactlyIn u (task_at u target chunk) mask blocks view words
       and_like-task p t rule forced =
           exact (λ j i bit h lane beyond. invalid i j bit lane (valid_is i lane ∙ beyond))
@@ -174,7 +174,7 @@ module _ (u : Unrolling) (is : IsProblem u) (target : Sig) (chunk : ℕ) (early 
           → IsLane i cells k known lane view
           → ((j : ℕ) (d : Cell) → j < length cells → j ≢ k → get_or odd j false ≡ is_odd (get_or cells j d) i.pins)
           → (j : ℕ) (d : Cell) (bit : Bool) → j < length cells
-          → IsTrue (is_set (word_for bit (words_at words j)) lane) ↔ Forces i (passing known) (lit (get_or cells j d) bit))
+          → IsTrue (is_set (word_for bit (words_at_place words j)) lane) ↔ Forces i (passing known) (lit (get_or cells j d) bit))
           → IsForcedExactlyIn u (task_at u target chunk) mask blocks view words
       parity-task inverted odd odd_is rule forced =
           exact (λ j i bit h lane beyond. invalid i j bit lane (valid_is i lane ∙ beyond))

@@ -24,10 +24,10 @@ use Rattle.unroll.specs.declared.words.PinWord.{PinWord}
 use Rattle.unroll.specs.Bits.{is_set, is_cycle, word_for}
 use Rattle.unroll.specs.Problem.{Unrolling, IsProblem, signals_in, chunks_in, block_at, sig_at}
 use Rattle.unroll.specs.Tasks.{blocks_for, blocks_from}
-use Rattle.unroll.proofs.lemmas.Blocks.{block-sig}
+use Rattle.unroll.proofs.lemmas.Laws.{block-sig}
 use Rattle.unroll.proofs.lemmas.Tasks.{pin-count, blocks-ascend, has-itself, listed-signal, signal-block, signal-listed, delay-cases, pin-signal, pins-within}
 use Rattle.unroll.proofs.lemmas.FlatMaps.{signals-ascend}
-use Rattle.gate_rules.specs.Lanes.{words_at, IsLane}
+use Rattle.gate_rules.specs.Lanes.{words_at_place, IsLane}
 use Rattle.gate_rules.specs.Forced.{words_of, view_has}
 use Rattle.gate_rules.proofs.BlockPlaces.{words_of-place, flat_map-single}
 
@@ -214,12 +214,12 @@ module _ (u : Unrolling) (is : IsProblem u) (target : Sig) (chunk : ℕ) (early 
     module _ (lane : i < 64) (valid : is_cycle u.cycles chunk i ≡ true) (view : List PinWord) (size : length view ≡ length blocks) where
       -- the words at a place say what is known of the cell there
       says : (j : ℕ) (d : Cell) (bit : Bool) → j < length signals
-          → is_set (word_for bit (words_at view j)) i ≡ view_has u blocks view (lit (get_or (lane_cells u target chunk i) j d) bit)
+          → is_set (word_for bit (words_at_place view j)) i ≡ view_has u blocks view (lit (get_or (lane_cells u target chunk i) j d) bit)
       says j d bit h =
           let s : Sig = get_or signals j target in
           let cycle : ℕ = 64 * chunk + i in
           let up : AllPairs (λ (a b : Block). a.0 < b.0) blocks = subst (AllPairs (λ (a b : Block). a.0 < b.0)) (sym are) (blocks-ascend u target chunk early) in
-          let words : words_of blocks view (block_at u (get_or signals j target) chunk) ≡ words_at view j =
+          let words : words_of blocks view (block_at u (get_or signals j target) chunk) ≡ words_at_place view j =
           ap (words_of blocks view) (sym (block-here j (block_at u target chunk) h)) ∙ words_of-place blocks view up size j (block_at u target chunk) (subst (λ n. j < n) (sym count) h) in
           sym (ap (λ (c : Cell). view_has u blocks view (lit c bit)) (cell-there j d h)
           ∙ ap (λ b. b && is_set (word_for bit (words_of blocks view (block_at u (get_or signals j target) ((64 * chunk + i) / 64)))) ((64 * chunk + i) % 64)) valid

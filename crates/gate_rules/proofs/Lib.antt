@@ -1,8 +1,6 @@
 mod AndLikeForced
 mod AndLikeSet
-mod AndLikeWords
 mod BlockPlaces
-mod CycleMasks
 mod Counting
 mod FlipFlopBlocks
 mod FlipFlopForced
@@ -12,9 +10,9 @@ mod GateLanes
 mod KindRules
 mod LaneWords
 mod NewLiterals
-mod OddWords
 mod ParityExact
 mod SettledOnce
 mod TaskForcing
 mod TaskViews
+mod Words
 pub mod lemmas

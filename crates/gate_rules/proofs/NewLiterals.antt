@@ -8,9 +8,9 @@ use Rattle.unroll.specs.declared.problem.Task.{Task}
 use Rattle.unroll.specs.declared.words.PinWord.{PinWord}
 use Rattle.unroll.specs.Bits.{is_set, word_for}
 use Rattle.unroll.specs.Problem.{Unrolling, chunk_at, sig_at, block_at, block_of, cell_of, HaveNoLaterBit}
-use Rattle.unroll.proofs.lemmas.Blocks.{block-itself}
-use Rattle.unroll.proofs.lemmas.Tasks.{role, cell-in_time}
-use Rattle.gate_rules.specs.Lanes.{words_at}
+use Rattle.unroll.proofs.lemmas.Laws.{block-itself, role}
+use Rattle.unroll.proofs.lemmas.Tasks.{cell-in_time}
+use Rattle.gate_rules.specs.Lanes.{words_at_place}
 use Rattle.gate_rules.specs.Forced.{ForcedIn, ForcedInCycles, IsForcedExactly, IsForcedExactlyIn, IsNewExactly, bit_at_place, lit_at_place, view_has, words_of}
 use Rattle.gate_rules.proofs.AndLikeSet.{set_next}
 use Rattle.gate_rules.proofs.BlockPlaces.{words_of-place}
@@ -53,7 +53,7 @@ module _ (u : Unrolling) (t : Task) (blocks : List Block) (view words : List Pin
       ap (λ x. x && is_set (word_for bit (words_of blocks view (block_of u (cell_of u b i)))) ((64 * chunk_at u b + i) % 64)) (lt-ltb (64 * chunk_at u b + i) u.cycles early)
       ∙ ap (λ (c : Block). is_set (word_for bit (words_of blocks view c)) ((64 * chunk_at u b + i) % 64)) block
       ∙ ap (λ w. is_set (word_for bit w) ((64 * chunk_at u b + i) % 64)) (words_of-place blocks view up size j (record { 0 = 0 }) within)
-      ∙ ap (is_set (word_for bit (words_at view j))) place
+      ∙ ap (is_set (word_for bit (words_at_place view j))) place
     where
       over : (c : ℕ) → (64 * c + i) / 64 ≡ c
       over c = omega (arith, lane)
@@ -81,23 +81,4 @@ module _ (u : Unrolling) (t : Task) (blocks : List Block) (view words : List Pin
 pub record TakenOut (before view after : List PinWord) (n : ℕ) : Type 0 where
   pub size : length after ≡ length before
   pub taken : (j i : ℕ) (bit : Bool) → j < n → i < 64 → bit_at_place after j bit i ≡ (bit_at_place before j bit i && not (bit_at_place view j bit i))
-  pub rest : (j : ℕ) → n ≤ j → words_at after j ≡ words_at before j
-
-pub none-taken : (before view : List PinWord) → TakenOut before view before 0
-none-taken before view = record {
-  size = refl;
-  taken = λ j i bit below lane. absurd (omega (arith, below));
-  rest = λ j past. refl;
-}
-
--- at one place more
-pub more-taken : (before view now after : List PinWord) (n : ℕ) (word : PinWord) → TakenOut before view now n → n < length now → after ≡ set now n word
-    → ((i : ℕ) (bit : Bool) → i < 64 → is_set (word_for bit word) i ≡ (is_set (word_for bit (words_at now n)) i && not (is_set (word_for bit (words_at view n)) i)))
-    → TakenOut before view after (n + 1)
-more-taken before view now after n word so_far within is here = record {
-  size = ap length is ∙ length-set now n word ∙ so_far.size;
-  taken = λ j i bit below lane. set_next (λ k w. is_set (word_for bit w) i ≡ (bit_at_place before k bit i && not (bit_at_place view k bit i))) now after n word within is
-      (λ k earlier. so_far.taken k i bit earlier lane)
-      (here i bit lane ∙ ap (λ w. is_set (word_for bit w) i && not (bit_at_place view n bit i)) (so_far.rest n (omega arith))) j below;
-  rest = λ j past. ap (λ (ws : List PinWord). words_at ws j) is ∙ get_or-set_other now n j word (record { zero = 0; one = 0 }) (λ e. omega (arith, e, past)) ∙ so_far.rest j (omega (arith, past));
-}
+  pub rest : (j : ℕ) → n ≤ j → words_at_place after j ≡ words_at_place before j

@@ -15,7 +15,7 @@ use Rattle.sr_model.proofs.lemmas.Cells.{cell_eq, cell_cases, cell_eq-itself}
 use Rattle.sr_model.proofs.lemmas.ParityRules.{target_odd, pin_odd, AreOdd, is_open, CountsForce, count_without, without, xor_counts, XorForces, is_odd-member, xor_even-exact, xor_odd-exact, both_known, known_bit, no_others, xor_lone-exact}
 use Rattle.unroll.specs.declared.words.PinWord.{PinWord}
 use Rattle.unroll.specs.Bits.{is_set, word_for}
-use Rattle.gate_rules.specs.Lanes.{words_at, IsLane}
+use Rattle.gate_rules.specs.Lanes.{words_at_place, IsLane}
 use Rattle.gate_rules.specs.OddPlaces.{has_none, has_both, counts, counting, counted, is_lone, ones_parity, others_known, others_both, others_value, settles, place_bit, parity_bit}
 use Rattle.gate_rules.proofs.Counting.{count_same, counting_ind, counting_below, counting_counts, counting_has}
 
@@ -128,30 +128,30 @@ module _ (inverted : Bool) (target : ℕ) (odd : List Bool) (i : Instance) (cell
         (Contains-map (λ j. get_or cells j d) (counting target odd (length words)) found.0 (counting_has target odd (length words) found.0 within count));
   }
 
-  none_is : (j : ℕ) → j < length cells → has_none lane (words_at words j) ≡ is_open known (get_or cells j d)
+  none_is : (j : ℕ) → j < length cells → has_none lane (words_at_place words j) ≡ is_open known (get_or cells j d)
   none_is j hj =
-      ap (λ b. not (b || is_set (word_for true (words_at words j)) lane)) (at.says j d false hj)
+      ap (λ b. not (b || is_set (word_for true (words_at_place words j)) lane)) (at.says j d false hj)
       ∙ ap (λ b. not (known (lit (get_or cells j d) false) || b)) (at.says j d true hj)
 
-  both_is : (j : ℕ) → j < length cells → has_both lane (words_at words j) ≡ both_known known (get_or cells j d)
+  both_is : (j : ℕ) → j < length cells → has_both lane (words_at_place words j) ≡ both_known known (get_or cells j d)
   both_is j hj =
-      ap (λ b. b && is_set (word_for true (words_at words j)) lane) (at.says j d false hj)
+      ap (λ b. b && is_set (word_for true (words_at_place words j)) lane) (at.says j d false hj)
       ∙ ap (λ b. known (lit (get_or cells j d) false) && b) (at.says j d true hj)
 
-  parity_is : (js : List ℕ) → ((j : ℕ) → Contains js j → j < length cells) → ones_parity lane (map (words_at words) js) ≡ parity (known_bit known) (map (λ j. get_or cells j d) js)
+  parity_is : (js : List ℕ) → ((j : ℕ) → Contains js j → j < length cells) → ones_parity lane (map (words_at_place words) js) ≡ parity (known_bit known) (map (λ j. get_or cells j d) js)
   parity_is [] within = refl
   parity_is (j ∷ js) within =
-      ap (λ b. plus b (ones_parity lane (map (words_at words) js))) (at.says j d true (within j (Contains-here j js)))
+      ap (λ b. plus b (ones_parity lane (map (words_at_place words) js))) (at.says j d true (within j (Contains-here j js)))
       ∙ ap (plus (known (lit (get_or cells j d) true))) (parity_is js (λ k h. within k (Contains-there j js k h)))
 
   module _ (j : ℕ) (hj : j < length cells) (bit : Bool) where
     nones_are : count_by (has_none lane) (counted target odd words) ≡ count_by (is_open known) odds
-    nones_are = count_same (has_none lane) (is_open known) (words_at words) (λ j. get_or cells j d) (counting target odd (length words)) (λ k h. none_is k (place_within k h))
+    nones_are = count_same (has_none lane) (is_open known) (words_at_place words) (λ j. get_or cells j d) (counting target odd (length words)) (λ k h. none_is k (place_within k h))
 
     boths_are : count_by (has_both lane) (counted target odd words) ≡ count_by (both_known known) odds
-    boths_are = count_same (has_both lane) (both_known known) (words_at words) (λ j. get_or cells j d) (counting target odd (length words)) (λ k h. both_is k (place_within k h))
+    boths_are = count_same (has_both lane) (both_known known) (words_at_place words) (λ j. get_or cells j d) (counting target odd (length words)) (λ k h. both_is k (place_within k h))
 
-    value_is : others_value inverted lane (counted target odd words) (words_at words j)
+    value_is : others_value inverted lane (counted target odd words) (words_at_place words j)
         ≡ plus inverted (plus (known_bit known (get_or cells j d)) (parity (known_bit known) odds))
     value_is =
         ap (λ b. plus inverted (plus b (ones_parity lane (counted target odd words)))) (at.says j d true hj)
@@ -164,12 +164,12 @@ module _ (inverted : Bool) (target : ℕ) (odd : List Bool) (i : Instance) (cell
       member : Contains odds (get_or cells j d)
       member = are_odd.each (get_or cells j d) is_odd_cell
 
-      settles_counts : settles inverted lane (counted target odd words) (words_at words j) bit ≡ true
+      settles_counts : settles inverted lane (counted target odd words) (words_at_place words j) bit ≡ true
           → CountsForce inverted odds known (get_or cells j d) bit
       settles_counts e =
           let c : Cell = get_or cells j d in
           let pins : List PinWord = counted target odd words in
-          let pin : PinWord = words_at words j in
+          let pin : PinWord = words_at_place words j in
           let parts : (others_known lane pins pin ≡ true) × ((others_both lane pins pin || beq (others_value inverted lane pins pin) bit) ≡ true) =
           and_parts (others_known lane pins pin) (others_both lane pins pin || beq (others_value inverted lane pins pin) bit) e in
           let few : count_by (has_none lane) pins ≤ cond (has_none lane pin) 1 0 = leb-true (count_by (has_none lane) pins) (cond (has_none lane pin) 1 0) parts.0 in
@@ -189,11 +189,11 @@ module _ (inverted : Bool) (target : ℕ) (odd : List Bool) (i : Instance) (cell
           )
 
       counts_settle : CountsForce inverted odds known (get_or cells j d) bit
-          → settles inverted lane (counted target odd words) (words_at words j) bit ≡ true
+          → settles inverted lane (counted target odd words) (words_at_place words j) bit ≡ true
       counts_settle h =
           let c : Cell = get_or cells j d in
           let pins : List PinWord = counted target odd words in
-          let pin : PinWord = words_at words j in
+          let pin : PinWord = words_at_place words j in
           let own : cond {A = ℕ} (has_none lane pin) 1 0 ≡ cond (is_open known c) 1 0 = ap (λ b. cond {A = ℕ} b 1 0) (none_is j hj) in
           let same : count_by (has_none lane) pins ≡ count_by (is_open known) odds = nones_are in
           let exact : count_by (is_open known) odds ≡ cond (is_open known c) 1 0 = h.0 in
@@ -230,11 +230,11 @@ module _ (inverted : Bool) (target : ℕ) (odd : List Bool) (i : Instance) (cell
           ]
 
       settled : is_lone target odd (length words) ≡ false
-          → ((is_set (word_for bit (words_at words j)) lane || settles inverted lane (counted target odd words) (words_at words j) bit) ≡ true) ↔ Forces i (passing known) (lit (get_or cells j d) bit)
+          → ((is_set (word_for bit (words_at_place words j)) lane || settles inverted lane (counted target odd words) (words_at_place words j) bit) ≡ true) ↔ Forces i (passing known) (lit (get_or cells j d) bit)
       settled e =
           let l : Lit = lit (get_or cells j d) bit in
-          let own : Bool = is_set (word_for bit (words_at words j)) lane in
-          let others : Bool = settles inverted lane (counted target odd words) (words_at words j) bit in
+          let own : Bool = is_set (word_for bit (words_at_place words j)) lane in
+          let others : Bool = settles inverted lane (counted target odd words) (words_at_place words j) bit in
           let x : (c : Cell) × (is_odd c (cells_of i) ≡ true) × (cell_eq c (get_or cells j d) ≡ false) = another e in
           let exact : Forces i (passing known) l ↔ ((known l ≡ true) ⊎ XorForces inverted i known l) = xor_odd-exact inverted i xor_like known l x.0 is_odd_cell x.1 x.2 in
           let choice : XorForces inverted i known l ↔ CountsForce inverted odds known (get_or cells j d) bit = xor_counts inverted i known l odds are_odd member in (
@@ -262,7 +262,7 @@ module _ (inverted : Bool) (target : ℕ) (odd : List Bool) (i : Instance) (cell
           let exact : Forces i (passing known) l ↔ (bit ≡ inverted) = xor_lone-exact inverted i xor_like known l is_odd_cell (no_others i (get_or cells j d) lone) in
           (λ h. exact.1 (sym (beq_is inverted bit h)), λ f. is_beq inverted bit (sym (exact.0 f)))
 
-    even_cell : counts target odd j ≡ false → (is_set (word_for bit (words_at words j)) lane ≡ true) ↔ Forces i (passing known) (lit (get_or cells j d) bit)
+    even_cell : counts target odd j ≡ false → (is_set (word_for bit (words_at_place words j)) lane ≡ true) ↔ Forces i (passing known) (lit (get_or cells j d) bit)
     even_cell even =
         let l : Lit = lit (get_or cells j d) bit in
         let other : j ≢ target = λ e. true≢false (sym (or_left (eqb j target) (get_or odd j false) (eq-eqb j target e)) ∙ even) in
@@ -273,7 +273,7 @@ module _ (inverted : Bool) (target : ℕ) (odd : List Bool) (i : Instance) (cell
     pub parity_exact : (parity_bit inverted target odd words lane j bit ≡ true) ↔ Forces i (passing known) (lit (get_or cells j d) bit)
     parity_exact =
         let pins : List PinWord = counted target odd words in
-        let pin : PinWord = words_at words j in
+        let pin : PinWord = words_at_place words j in
         let count : Bool = counts target odd j in
         let lone : Bool = is_lone target odd (length words) in
         elim (cases_Bool (counts target odd j)) [

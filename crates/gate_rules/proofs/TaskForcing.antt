@@ -11,9 +11,9 @@ use Rattle.sr_model.proofs.lemmas.Members.{All-from_Contains}
 use Rattle.unroll.specs.declared.problem.Task.{Task}
 use Rattle.unroll.specs.Problem.{Unrolling, unrolled}
 use Rattle.unroll.specs.Tasks.{IsTask, IsPlaceOf, IsCellOf, drives_itself, target_of, task_of}
-use Rattle.unroll.proofs.lemmas.Tasks.{share_no_cell, each_in_one_task}
+use Rattle.unroll.proofs.lemmas.Words.{alone-only, alone-set}
+use Rattle.unroll.proofs.lemmas.Laws.{share_no_cell, each_in_one_task}
 use Rattle.gate_rules.specs.Forced.{ForcedIn, ForcedInCycles, IsDone}
-use Rattle.gate_rules.proofs.CycleMasks.{alone_set, alone_only}
 use Rattle.gate_rules.proofs.NewLiterals.{forced-in_time}
 use Rattle.gate_rules.proofs.SettledOnce.{settled_at}
 
@@ -66,8 +66,8 @@ one-place u t p q of_p of_q bit =
 pub forced_at_place : (u : Unrolling) (t : Task) (p : Place) (known : Lit → Bool) (l : Lit) → IsPlaceOf u t p
     → ForcedInCycles u t (2 ^ (p.cycle % 64)) known l ↔ ForcesAt (unrolled u) (passing known) p l
 forced_at_place u t p known l of = (
-  λ f. subst (λ (q : Place). ForcesAt (unrolled u) (passing known) q l) (one-place u t p f.place of f.belongs (alone_only (p.cycle % 64) (f.place.cycle % 64) f.in_mask)) f.forces,
-  λ f. record { place = p; belongs = of; in_mask = alone_set (p.cycle % 64); forces = f },
+  λ f. subst (λ (q : Place). ForcesAt (unrolled u) (passing known) q l) (one-place u t p f.place of f.belongs (alone-only (p.cycle % 64) (f.place.cycle % 64) f.in_mask)) f.forces,
+  λ f. record { place = p; belongs = of; in_mask = alone-set (p.cycle % 64); forces = f },
 )
 
 pub closed_where_done : (u : Unrolling) (known : Lit → Bool) → IsClosed (unrolled u) (passing known) ↔ ((t : Task) → IsTask u t → IsDone u t known)

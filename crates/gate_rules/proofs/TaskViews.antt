@@ -10,8 +10,8 @@ use Rattle.unroll.specs.declared.problem.Task.{Task}
 use Rattle.unroll.specs.declared.words.PinWord.{PinWord}
 use Rattle.unroll.specs.Problem.{Unrolling, IsProblem, block_of, bit_of, cell_of}
 use Rattle.unroll.specs.Tasks.{IsTask, IsCellOf, target_of, target_block, chunk_of, blocks_of}
-use Rattle.unroll.proofs.lemmas.Blocks.{some_chunk, chunk-within, cell-itself, bit-small}
-use Rattle.unroll.proofs.lemmas.Tasks.{blocks-ascend, role, cell-in_time, have_its_cells}
+use Rattle.unroll.proofs.lemmas.Tasks.{some_chunk, blocks-ascend, cell-in_time}
+use Rattle.unroll.proofs.lemmas.Laws.{chunk-within, cell-itself, bit-small, role, have_its_cells}
 use Rattle.gate_rules.specs.Forced.{IsViewOf, AreForcedBy, AreForcedInCyclesBy, IsForcedExactly, IsForcedExactlyIn, lit_at_place, view_has}
 use Rattle.gate_rules.proofs.NewLiterals.{view-at}
 use Rattle.gate_rules.proofs.TaskForcing.{forced_by_cells, forced_in_cycles_by_cells}

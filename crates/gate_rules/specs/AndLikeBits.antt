@@ -7,14 +7,14 @@ use Rattle.sr_model.specs.Netlist.{Instance}
 use Rattle.sr_model.specs.Closure.{Forces, passing, lit}
 use Rattle.unroll.specs.declared.words.PinWord.{PinWord}
 use Rattle.unroll.specs.Bits.{is_set, word_for}
-use Rattle.gate_rules.specs.Lanes.{words_at, IsLane}
+use Rattle.gate_rules.specs.Lanes.{words_at_place, IsLane}
 
 -- whether the words at a place have the literal of a bit
 abbrev pub has_literal : List PinWord → ℕ → Bool → ℕ → Bool
-has_literal words lane bit j = is_set (word_for bit (words_at words j)) lane
+has_literal words lane bit j = is_set (word_for bit (words_at_place words j)) lane
 
 -- Of the places below a number but one: whether one at least lacks a literal, whether two at least do, and whether one has the other literal.
-pub record IsCounted (has has_other : ℕ → Bool) (target count : ℕ) (lacking lacking_two other : Bool) : Type 0 where
+pub record ArePinBits (has has_other : ℕ → Bool) (target count : ℕ) (lacking lacking_two other : Bool) : Type 0 where
   pub none_lacks : lacking ≡ false → (j : ℕ) → j < count → j ≢ target → has j ≡ true
   pub one_lacks : lacking ≡ true → (j : ℕ) × (j < count) × (j ≢ target) × (has j ≡ false)
   pub one_alone : lacking_two ≡ false → (j k : ℕ) → j < count → j ≢ target → has j ≡ false → k < count → k ≢ target → has k ≡ false → j ≡ k
@@ -23,9 +23,9 @@ pub record IsCounted (has has_other : ℕ → Bool) (target count : ℕ) (lackin
   pub one_other : other ≡ true → (j : ℕ) × (j < count) × (j ≢ target) × (has_other j ≡ true)
 
 -- the same of words, in each of 64 cycles
-abbrev pub WordsCounted : Bool → ℕ → List PinWord → ℕ → ℕ → ℕ → ℕ → Type 0
-WordsCounted pins target words count lacking lacking_two other =
-    (lane : ℕ) → lane < 64 → IsCounted (has_literal words lane pins) (has_literal words lane (not pins)) target count (is_set lacking lane) (is_set lacking_two lane) (is_set other lane)
+abbrev pub ArePinWords : Bool → ℕ → List PinWord → ℕ → ℕ → ℕ → ℕ → Type 0
+ArePinWords pins target words count lacking lacking_two other =
+    (lane : ℕ) → lane < 64 → ArePinBits (has_literal words lane pins) (has_literal words lane (not pins)) target count (is_set lacking lane) (is_set lacking_two lane) (is_set other lane)
 
 -- the bits of the words at a place, in each of 64 cycles that are there, are exactly what the gate forces of its cell
 abbrev pub WordForced : Bool → Bool → ℕ → ℕ → List PinWord → ℕ → PinWord → Type 0

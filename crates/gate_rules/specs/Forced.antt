@@ -6,15 +6,15 @@ use Rattle.sr_model.specs.Closure.{ForcesAt, passing, lit}
 use Rattle.unroll.specs.declared.problem.Block.{Block}
 use Rattle.unroll.specs.declared.problem.Task.{Task}
 use Rattle.unroll.specs.declared.words.PinWord.{PinWord}
-use Rattle.unroll.specs.Bits.{is_set, word_for}
+use Rattle.unroll.specs.Bits.{is_set, word_for, no_words}
 use Rattle.unroll.specs.Problem.{Unrolling, unrolled, block_of, bit_of, cell_of}
 use Rattle.unroll.specs.Tasks.{IsPlaceOf}
-use Rattle.gate_rules.specs.Lanes.{words_at}
+use Rattle.gate_rules.specs.Lanes.{words_at_place}
 
 -- the words that stand beside a block
 abbrev pub words_of : List Block → List PinWord → Block → PinWord
-words_of [] words b = record { zero = 0; one = 0 }
-words_of (c ∷ blocks) [] b = record { zero = 0; one = 0 }
+words_of [] words b = no_words
+words_of (c ∷ blocks) [] b = no_words
 words_of (c ∷ blocks) (w ∷ words) b = if c.0 == b.0 then w else words_of blocks words b
 
 -- whether the words of these blocks have a literal
@@ -40,7 +40,7 @@ IsDone u t known = (l : Lit) → ForcedIn u t known l → known l ≡ true
 
 -- bit i of the words for block j
 abbrev pub bit_at_place : List PinWord → ℕ → Bool → ℕ → Bool
-bit_at_place words j bit i = is_set (word_for bit (words_at words j)) i
+bit_at_place words j bit i = is_set (word_for bit (words_at_place words j)) i
 
 -- the literal that it stands for
 abbrev pub lit_at_place : Unrolling → List Block → ℕ → Bool → ℕ → Lit

@@ -6,7 +6,7 @@ use Rattle.sr_model.specs.XorLike.{plus}
 use Rattle.unroll.specs.declared.words.PinWord.{PinWord}
 use Rattle.unroll.specs.Bits.{is_set, word_for}
 use Rattle.gate_rules.specs.declared.parity.OddBits.{OddBits}
-use Rattle.gate_rules.specs.Lanes.{words_at}
+use Rattle.gate_rules.specs.Lanes.{words_at_place}
 
 -- no literal is there in the cycle
 abbrev pub has_none : ℕ → PinWord → Bool
@@ -27,7 +27,7 @@ counting target odd (suc n) = if counts target odd n then n ∷ counting target 
 
 -- the words at the places that count
 abbrev pub counted : ℕ → List Bool → List PinWord → List PinWord
-counted target odd words = map (words_at words) (counting target odd (length words))
+counted target odd words = map (words_at_place words) (counting target odd (length words))
 
 -- no place but the target's counts
 abbrev pub is_lone : ℕ → List Bool → ℕ → Bool
@@ -72,4 +72,4 @@ place_bit inverted lane pins counts lone pin bit =
 -- the literal that the rule gives at place j
 abbrev pub parity_bit : Bool → ℕ → List Bool → List PinWord → ℕ → ℕ → Bool → Bool
 parity_bit inverted target odd words lane j bit =
-    place_bit inverted lane (counted target odd words) (counts target odd j) (is_lone target odd (length words)) (words_at words j) bit
+    place_bit inverted lane (counted target odd words) (counts target odd j) (is_lone target odd (length words)) (words_at_place words j) bit

@@ -6,8 +6,8 @@ ghost use Rattle.sr_model.specs.AndLike.{IsAndLike};
 ghost use Rattle.sr_model.specs.Netlist.{Instance};
 ghost use Rattle.sr_model.specs.Closure.{Forces, passing, lit};
 ghost use Rattle.unroll.specs.Bits.{is_set, word_for};
-ghost use Rattle.gate_rules.specs.Lanes.{words_at, IsLane};
-ghost use Rattle.gate_rules.specs.AndLikeBits.{WordsCounted, WordForced};
+ghost use Rattle.gate_rules.specs.Lanes.{words_at_place, IsLane};
+ghost use Rattle.gate_rules.specs.AndLikeBits.{ArePinWords, WordForced};
 
 use unroll::{PinWord, PinWords};
 
@@ -26,50 +26,25 @@ struct PinBits {
     other: u64,
 }
 
-/// The word of a bit.
-fn literal(word: PinWord, bit: bool) -> u64
-    ensures { result ≡ word_for bit word }
-{
-    if bit { word.one } else { word.zero }
-}
-
-/// The words of a cell whose literal `bit` has the one word, and whose other literal has the other.
-fn pin_word(bit: bool, own: u64, other: u64) -> PinWord
-    ensures own { word_for bit result ≡ own }
-    ensures other { word_for (not bit) result ≡ other }
-{
-    if bit {
-        PinWord {
-            zero: other,
-            one: own,
-        }
-    } else {
-        PinWord {
-            zero: own,
-            one: other,
-        }
-    }
-}
-
 /// What the pins say with one pin more.
-#[tactic(auto, using(crate::proofs::AndLikeWords::either_set, crate::proofs::AndLikeWords::both_set, crate::proofs::AndLikeWords::not_set))]
+#[tactic(auto, using(crate::proofs::Words::is_set_or, crate::proofs::Words::is_set_and, crate::proofs::Words::is_set_not))]
 fn with_pin(found: PinBits, pins: bool, word: PinWord) -> PinBits
     ensures lacking { (lane : ℕ) → lane < 64 → is_set result.lacking lane ≡ (is_set found.lacking lane || not (is_set (word_for pins word) lane)) }
     ensures lacking_two { (lane : ℕ) → lane < 64 → is_set result.lacking_two lane ≡ (is_set found.lacking_two lane || (is_set found.lacking lane && not (is_set (word_for pins word) lane))) }
     ensures other { (lane : ℕ) → lane < 64 → is_set result.other lane ≡ (is_set found.other lane || is_set (word_for (not pins) word) lane) }
 {
-    let lacks = !literal(word, pins);
+    let lacks = !word.word(pins);
     PinBits {
         lacking: found.lacking | lacks,
         lacking_two: found.lacking_two | (found.lacking & lacks),
-        other: found.other | literal(word, !pins),
+        other: found.other | word.word(!pins),
     }
 }
 
 /// What the words but the target's say together.
-#[tactic(auto, using(crate::proofs::AndLikeWords::none_set))]
+#[tactic(auto, using(crate::proofs::Words::is_set_zero))]
 fn read_pins(pins: bool, target: usize, view: &[PinWord]) -> PinBits
-    ensures { WordsCounted pins target view.now (length view.now) result.lacking result.lacking_two result.other }
+    ensures { ArePinWords pins target view.now (length view.now) result.lacking result.lacking_two result.other }
 {
     let mut found = PinBits {
         lacking: 0,
@@ -85,30 +60,30 @@ fn read_pins(pins: bool, target: usize, view: &[PinWord]) -> PinBits
 }
 
 /// What is forced of the target: what is known there, and its one literal where no pin lacks `pins`, the other where a pin has the other.
-#[tactic(auto, using(crate::proofs::AndLikeWords::either_set, crate::proofs::AndLikeWords::both_set, crate::proofs::AndLikeWords::not_set))]
+#[tactic(auto, using(crate::proofs::Words::is_set_or, crate::proofs::Words::is_set_and, crate::proofs::Words::is_set_not))]
 fn force_target(gate: AndLike, valid: u64, found: PinBits, word: PinWord) -> PinWord
     ensures own { (lane : ℕ) → lane < 64 → is_set (word_for gate.target result) lane ≡ ((is_set (word_for gate.target word) lane || not (is_set found.lacking lane)) && is_set valid lane) }
     ensures other { (lane : ℕ) → lane < 64 → is_set (word_for (not gate.target) result) lane ≡ ((is_set (word_for (not gate.target) word) lane || is_set found.other lane) && is_set valid lane) }
 {
-    let own = literal(word, gate.target) | !found.lacking;
-    let other = literal(word, !gate.target) | found.other;
-    pin_word(gate.target, own & valid, other & valid)
+    let own = word.word(gate.target) | !found.lacking;
+    let other = word.word(!gate.target) | found.other;
+    PinWord::of(gate.target, own & valid, other & valid)
 }
 
 /// What is forced of a pin: what is known there, `pins` where the target has its `target`, and the other literal where the target has its other
 /// and no other pin lacks `pins`.
-#[tactic(auto, using(crate::proofs::AndLikeWords::either_set, crate::proofs::AndLikeWords::both_set, crate::proofs::AndLikeWords::not_set))]
+#[tactic(auto, using(crate::proofs::Words::is_set_or, crate::proofs::Words::is_set_and, crate::proofs::Words::is_set_not))]
 fn force_pin(gate: AndLike, valid: u64, found: PinBits, target: PinWord, word: PinWord) -> PinWord
     ensures own { (lane : ℕ) → lane < 64 → is_set (word_for gate.pins result) lane ≡ ((is_set (word_for gate.pins word) lane || is_set (word_for gate.target target) lane) && is_set valid lane) }
     ensures other { (lane : ℕ) → lane < 64 → is_set (word_for (not gate.pins) result) lane
         ≡ ((is_set (word_for (not gate.pins) word) lane
         || (is_set (word_for (not gate.target) target) lane && (not (is_set found.lacking_two lane) && (not (is_set found.lacking lane) || not (is_set (word_for gate.pins word) lane))))) && is_set valid lane) }
 {
-    let has = literal(word, gate.pins);
+    let has = word.word(gate.pins);
     let others_have = !found.lacking_two & (!found.lacking | !has);
-    let own = has | literal(target, gate.target);
-    let other = literal(word, !gate.pins) | (literal(target, !gate.target) & others_have);
-    pin_word(gate.pins, own & valid, other & valid)
+    let own = has | target.word(gate.target);
+    let other = word.word(!gate.pins) | (target.word(!gate.target) & others_have);
+    PinWord::of(gate.pins, own & valid, other & valid)
 }
 
 /// What is forced of the cell at a place.
@@ -121,7 +96,7 @@ fn force_place(
     place: usize,
 ) -> PinWord
     requires target { target < length view.now }
-    requires found { WordsCounted gate.pins target view.now (length view.now) found.lacking found.lacking_two found.other }
+    requires found { ArePinWords gate.pins target view.now (length view.now) found.lacking found.lacking_two found.other }
     requires place { place < length view.now }
     ensures forced { WordForced gate.pins gate.target target valid view.now place result }
     ensures invalid { (lane : ℕ) (bit : Bool) → lane < 64 → is_set valid lane ≡ false → is_set (word_for bit result) lane ≡ false }
@@ -149,8 +124,8 @@ pub(crate) fn force_and_like(
     ensures room { out.new.room ≡ out.old.room }
     ensures forced { (lane : ℕ) (i : Instance) (cells : List Cell) (known : Lit → Bool) → lane < 64 → is_set valid lane ≡ true → IsAndLike gate.pins gate.target i → 2 ≤ length cells
         → IsLane i cells target known lane view.now → (j : ℕ) (d : Cell) (bit : Bool) → j < length cells
-        → IsTrue (is_set (word_for bit (words_at out.new.items j)) lane) ↔ Forces i (passing known) (lit (slice_index_or cells j d) bit) }
-    ensures invalid { (lane j : ℕ) (bit : Bool) → lane < 64 → is_set valid lane ≡ false → is_set (word_for bit (words_at out.new.items j)) lane ≡ false }
+        → IsTrue (is_set (word_for bit (words_at_place out.new.items j)) lane) ↔ Forces i (passing known) (lit (slice_index_or cells j d) bit) }
+    ensures invalid { (lane j : ℕ) (bit : Bool) → lane < 64 → is_set valid lane ≡ false → is_set (word_for bit (words_at_place out.new.items j)) lane ≡ false }
 {
     let found = read_pins(gate.pins, target, view);
     for place in 0..view.len() {

@@ -4,13 +4,12 @@ ghost use Rattle.sr_model.specs.declared.gates.Kind.TheVariants.{Dff};
 ghost use Rattle.sr_model.specs.Netlist.{Driven};
 ghost use Rattle.netlist.specs.Wiring.{driver_at, is_flip_flop};
 ghost use Rattle.unroll.specs.Bits.{is_set, word_for};
-ghost use Rattle.unroll.specs.Problem.{chunks_in, block_at};
-ghost use Rattle.unroll.specs.Tasks.{task_at, blocks_from};
+ghost use Rattle.unroll.specs.Problem.{IsInside, block_at, block_in};
+ghost use Rattle.unroll.specs.Tasks.{task_in, blocks_from};
 ghost use Rattle.gate_rules.specs.Forced.{ForcedInCycles, words_of, view_has, bit_at_place, lit_at_place};
 ghost use Rattle.gate_rules.specs.FlipFlopBits.{data_pin, is_shared, is_bit_of};
 
-use sr_model::Sig;
-use unroll::{Block, Blocks, PinWord, PinWords, Problem};
+use unroll::{Block, Blocks, InChunk, PinWord, PinWords, Problem};
 
 /// The blocks that have the cells of a flip-flop in a chunk: its data pin's and its own in the chunk, and its own in the next chunk.
 ///
@@ -24,19 +23,18 @@ struct CellBlocks {
 
 impl CellBlocks {
     /// Those of a flip-flop in a chunk.
-    fn new(p: &Problem, target: Sig, chunk: u32) -> CellBlocks
-        requires target { target.0 < length p.now.circuit.drivers }
-        requires chunk { chunk < chunks_in p.now }
-        requires flip_flop { is_flip_flop (driver_at p.now.circuit.drivers target.0) ≡ true }
-        ensures driver { driver_at p.now.circuit.drivers target.0 ≡ Driven Dff (data_pin (driver_at p.now.circuit.drivers target.0) ∷ []) }
-        ensures pin { result.pin ≡ block_at p.now (data_pin (driver_at p.now.circuit.drivers target.0)) chunk }
-        ensures own { result.own ≡ block_at p.now target chunk }
+    fn new(p: &Problem, at: InChunk) -> CellBlocks
+        requires inside { IsInside p.now at }
+        requires flip_flop { is_flip_flop (driver_at p.now.circuit.drivers at.sig.0) ≡ true }
+        ensures driver { driver_at p.now.circuit.drivers at.sig.0 ≡ Driven Dff (data_pin (driver_at p.now.circuit.drivers at.sig.0) ∷ []) }
+        ensures pin { result.pin ≡ block_at p.now (data_pin (driver_at p.now.circuit.drivers at.sig.0)) at.chunk }
+        ensures own { result.own ≡ block_in p.now at }
         ensures next { result.next.0 ≡ result.own.0 + 1 }
     {
-        let pin = p.net().pins_of(target)[0];
-        let own = p.block(target, chunk);
+        let pin = p.net().pins_of(at.sig)[0];
+        let own = p.block(at.sig, at.chunk);
         CellBlocks {
-            pin: p.block(pin, chunk),
+            pin: p.block(pin, at.chunk),
             own,
             next: Block(own.0 + 1),
         }
@@ -68,6 +66,7 @@ impl CellBlocks {
     }
 
     /// The same for one literal. As the flip-flop's own cell, bit 0 of `own` belongs to the chunk before, or is free.
+    #[tactic(auto, using(crate::proofs::Words::is_set_or, crate::proofs::FlipFlopWords::later, crate::proofs::FlipFlopWords::carried))]
     fn bits_for(self, block: Block, shared: u64) -> u64
         ensures { (i : ℕ) → i < 64 → is_set result i ≡ is_bit_of self block shared i }
     {
@@ -79,6 +78,7 @@ impl CellBlocks {
 }
 
 /// These bits where the condition holds, and no bit where it doesn't.
+#[tactic(auto, using(crate::proofs::Words::is_set_zero))]
 fn only_if(condition: bool, bits: u64) -> u64
     ensures { (i : ℕ) → is_set result i ≡ (condition && is_set bits i) }
 {
@@ -96,10 +96,11 @@ fn words_beside(blocks: &Blocks, view: &PinWords, block: Block) -> PinWord
             return words[place];
         }
     }
-    PinWord { zero: 0, one: 0 }
+    PinWord::none()
 }
 
 /// A bit for each instance whose literal is known of the data pin, or of the flip-flop one cycle later.
+#[tactic(auto, using(crate::proofs::FlipFlopWords::shared_set))]
 fn shared_bits(pin: u64, own: u64, next: u64, valid: u64) -> u64
     ensures { (i : ℕ) → i < 64 → is_set result i ≡ is_shared pin own next valid i }
 {
@@ -111,26 +112,24 @@ fn shared_bits(pin: u64, own: u64, next: u64, valid: u64) -> u64
 /// The instances of the chunk are those whose data pin is in it; the last cycle has none. There is no division.
 pub(crate) fn force_flip_flop(
     p: &Problem,
-    target: Sig,
-    chunk: u32,
+    at: InChunk,
     mask: u64,
     blocks: &Blocks,
     view: &PinWords,
     out: &mut PinWords,
 )
-    requires target { target.0 < length p.now.circuit.drivers }
-    requires chunk { chunk < chunks_in p.now }
-    requires flip_flop { is_flip_flop (driver_at p.now.circuit.drivers target.0) ≡ true }
-    requires blocks { blocks.now.items ≡ blocks_from p.now target chunk }
+    requires inside { IsInside p.now at }
+    requires flip_flop { is_flip_flop (driver_at p.now.circuit.drivers at.sig.0) ≡ true }
+    requires blocks { blocks.now.items ≡ blocks_from p.now at.sig at.chunk }
     requires view { length view.now.items ≡ length blocks.now.items }
     requires out { length out.old.items ≡ length blocks.now.items }
     ensures size { length out.new.items ≡ length blocks.now.items }
     ensures room { out.new.room ≡ out.old.room }
     ensures forced { (j i : ℕ) (bit : Bool) → j < length blocks.now.items → i < 64
-        → IsTrue (bit_at_place out.new.items j bit i) ↔ ForcedInCycles p.now (task_at p.now target chunk) mask (view_has p.now blocks.now.items view.now.items) (lit_at_place p.now blocks.now.items j bit i) }
+        → IsTrue (bit_at_place out.new.items j bit i) ↔ ForcedInCycles p.now (task_in p.now at) mask (view_has p.now blocks.now.items view.now.items) (lit_at_place p.now blocks.now.items j bit i) }
 {
-    let cells = CellBlocks::new(p, target, chunk);
-    let shared = cells.shared(p.valid_next_bits(chunk) & mask, blocks, view);
+    let cells = CellBlocks::new(p, at);
+    let shared = cells.shared(p.valid_next_bits(at.chunk) & mask, blocks, view);
     for (place, block) in blocks.as_slice().iter().enumerate() {
         out.set(place, cells.words_for(*block, shared));
     }

@@ -2,8 +2,8 @@
 ghost use Rattle.std.specs.Prelude.{◌≡◌, ◌<◌, ◌≤◌, true, length, Some, slice_index_or};
 ghost use Rattle.std.specs.List.{Contains};
 ghost use Rattle.netlist.specs.Wiring.{driver_at, is_gate, kind_of};
-ghost use Rattle.unroll.specs.Problem.{chunks_in};
-ghost use Rattle.unroll.specs.Tasks.{task_at, blocks_from};
+ghost use Rattle.unroll.specs.Problem.{IsInside};
+ghost use Rattle.unroll.specs.Tasks.{task_in, blocks_from};
 ghost use Rattle.gate_rules.specs.Forced.{IsForcedExactlyIn};
 ghost use Rattle.gate_rules.specs.Rules.{IsRuleOf};
 
@@ -11,7 +11,7 @@ use crate::and_like::{AndLike, force_and_like};
 use crate::parity::force_parity;
 use netlist::Netlist;
 use sr_model::{Kind, Sig};
-use unroll::{Block, Blocks, PinWords, Problem};
+use unroll::{Block, Blocks, InChunk, PinWords, Problem};
 
 /// How the target's bit follows from the pins' bits.
 #[derive(Clone, Copy)]
@@ -66,30 +66,28 @@ fn place_of(blocks: &[Block], block: Block) -> usize
 /// `view` has the words of the blocks, in their order. The cost is a few walks over the blocks.
 pub(crate) fn force_gate(
     p: &Problem,
-    target: Sig,
-    chunk: u32,
+    at: InChunk,
     mask: u64,
     blocks: &Blocks,
     view: &PinWords,
     out: &mut PinWords,
 )
-    requires target { target.0 < length p.now.circuit.drivers }
-    requires chunk { chunk < chunks_in p.now }
-    requires gate { is_gate (driver_at p.now.circuit.drivers target.0) ≡ true }
-    requires blocks { blocks.now.items ≡ blocks_from p.now target chunk }
+    requires inside { IsInside p.now at }
+    requires gate { is_gate (driver_at p.now.circuit.drivers at.sig.0) ≡ true }
+    requires blocks { blocks.now.items ≡ blocks_from p.now at.sig at.chunk }
     requires view { length view.now.items ≡ length blocks.now.items }
     requires out { length out.old.items ≡ length blocks.now.items }
     ensures size { length out.new.items ≡ length blocks.now.items }
     ensures room { out.new.room ≡ out.old.room }
-    ensures forced { IsForcedExactlyIn p.now (task_at p.now target chunk) mask blocks.now.items view.now.items out.new.items }
+    ensures forced { IsForcedExactlyIn p.now (task_in p.now at) mask blocks.now.items view.now.items out.new.items }
 {
     let net = p.net();
-    let place = place_of(blocks.as_slice(), p.block(target, chunk));
-    let valid = p.valid_bits(chunk) & mask;
-    match rule_of(gate_kind(net, target)) {
+    let place = place_of(blocks.as_slice(), p.block(at.sig, at.chunk));
+    let valid = p.valid_bits(at.chunk) & mask;
+    match rule_of(gate_kind(net, at.sig)) {
         Rule::AndLike(gate) => force_and_like(gate, place, valid, view.as_slice(), out),
         Rule::Parity { inverted } => {
-            let odd = net.pin_parities(target);
+            let odd = net.pin_parities(at.sig);
             force_parity(inverted, place, odd, valid, view.as_slice(), out);
         }
     }

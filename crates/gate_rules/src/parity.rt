@@ -9,24 +9,18 @@ ghost use Rattle.sr_model.specs.Netlist.{Instance};
 ghost use Rattle.sr_model.specs.Closure.{Forces, passing, lit};
 ghost use Rattle.sr_model.specs.XorLike.{is_odd, IsXorLike};
 ghost use Rattle.unroll.specs.Bits.{is_set, word_for};
-ghost use Rattle.gate_rules.specs.Lanes.{words_at, IsLane};
+ghost use Rattle.gate_rules.specs.Lanes.{words_at_place, IsLane};
 ghost use Rattle.gate_rules.specs.OddPlaces.{has_none, has_both, counts, counted, is_lone, others_known, others_both, others_value, settles, place_bit, parity_bit, IsOddBits};
 ghost use mathlib.Core.Bool.{beq};
 
 use unroll::{PinWord, PinWords};
 
 /// The cycles in which no literal is there.
+#[tactic(auto, using(crate::proofs::Words::is_set_not))]
 fn no_literal(pin: PinWord) -> u64
     ensures { (lane : ℕ) → lane < 64 → is_set result lane ≡ has_none lane pin }
 {
-    !pin.zero & !pin.one
-}
-
-/// The cycles in which both literals are there.
-fn both_literals(pin: PinWord) -> u64
-    ensures { (lane : ℕ) → is_set result lane ≡ has_both lane pin }
-{
-    pin.zero & pin.one
+    !pin.known()
 }
 
 /// Whether the cell at place j counts.
@@ -61,7 +55,7 @@ impl OddBits {
         ensures lone { result.lone ≡ (is_target && self.lone) }
     {
         let none = no_literal(pin);
-        let both = both_literals(pin);
+        let both = pin.both();
         OddBits {
             missing: self.missing | none,
             missing_twice: self.missing_twice | (self.missing & none),
@@ -73,6 +67,7 @@ impl OddBits {
     }
 
     /// The cycles in which each cell but this one, which is counted, has a known literal.
+    #[tactic(auto, using(crate::proofs::Words::is_set_and, crate::proofs::Words::is_set_or, crate::proofs::Words::is_set_not, crate::proofs::LaneWords::none_else))]
     fn others_known(self, pin: PinWord) -> u64
         ensures { (lane : ℕ) (pins : List PinWord) → lane < 64 → IsOddBits lane pins self → is_set result lane ≡ others_known lane pins pin }
     {
@@ -80,14 +75,16 @@ impl OddBits {
     }
 
     /// The cycles in which some cell but this one has both literals.
+    #[tactic(auto, using(crate::proofs::Words::is_set_and, crate::proofs::Words::is_set_or, crate::proofs::Words::is_set_not, crate::proofs::LaneWords::one_else))]
     fn others_both(self, pin: PinWord) -> u64
         ensures { (lane : ℕ) (pins : List PinWord) → lane < 64 → IsOddBits lane pins self → is_set result lane ≡ others_both lane pins pin }
     {
-        let both = both_literals(pin);
+        let both = pin.both();
         self.both_twice | (self.both & !both)
     }
 
     /// The bits that the literals 1 of the cells but this one leave it.
+    #[tactic(auto, using(crate::proofs::Words::is_set_xor, crate::proofs::LaneWords::not_xor, crate::proofs::LaneWords::plus_comm))]
     fn others_value(self, inverted: bool, pin: PinWord) -> u64
         ensures { (lane : ℕ) (pins : List PinWord) → lane < 64 → IsOddBits lane pins self → is_set result lane ≡ others_value inverted lane pins pin }
     {
@@ -96,6 +93,7 @@ impl OddBits {
     }
 
     /// The literals of a cell that counts, where another one does.
+    #[tactic(auto, using(crate::proofs::LaneWords::settled_words))]
     fn literals(self, inverted: bool, pin: PinWord) -> PinWord
         ensures { (lane : ℕ) (pins : List PinWord) (bit : Bool) → lane < 64 → IsOddBits lane pins self
             → is_set (word_for bit result) lane ≡ (is_set (word_for bit pin) lane || settles inverted lane pins pin bit) }
@@ -133,20 +131,11 @@ fn odd_bits_of(target: usize, odd: &[bool], view: &[PinWord]) -> OddBits
 }
 
 /// The literals of the target, where no pin counts: the parity of its pins is 0.
+#[tactic(auto, using(crate::proofs::LaneWords::lone_bits))]
 fn lone_literals(inverted: bool) -> PinWord
     ensures { (lane : ℕ) (bit : Bool) → lane < 64 → is_set (word_for bit result) lane ≡ beq inverted bit }
 {
-    if inverted {
-        PinWord {
-            zero: 0,
-            one: u64::MAX,
-        }
-    } else {
-        PinWord {
-            zero: u64::MAX,
-            one: 0,
-        }
-    }
+    PinWord::of(inverted, u64::MAX, 0)
 }
 
 /// The literals of one cell; one that doesn't count has what is known of it.
@@ -160,16 +149,6 @@ fn literals_at(tally: OddBits, inverted: bool, counts: bool, pin: PinWord) -> Pi
         lone_literals(inverted)
     } else {
         tally.literals(inverted, pin)
-    }
-}
-
-/// The literals in the cycles of a mask.
-fn within(words: PinWord, mask: u64) -> PinWord
-    ensures { (lane : ℕ) (bit : Bool) → is_set (word_for bit result) lane ≡ (is_set (word_for bit words) lane && is_set mask lane) }
-{
-    PinWord {
-        zero: words.zero & mask,
-        one: words.one & mask,
     }
 }
 
@@ -194,12 +173,12 @@ pub(crate) fn force_parity(
         → IsLane i cells target known lane view.now
         → ((j : ℕ) (d : Cell) → j < length cells → j ≢ target → slice_index_or odd.now j false ≡ is_odd (slice_index_or cells j d) i.pins)
         → (j : ℕ) (d : Cell) (bit : Bool) → j < length cells
-        → IsTrue (is_set (word_for bit (words_at out.new.items j)) lane) ↔ Forces i (passing known) (lit (slice_index_or cells j d) bit) }
-    ensures invalid { (lane j : ℕ) (bit : Bool) → lane < 64 → is_set valid lane ≡ false → is_set (word_for bit (words_at out.new.items j)) lane ≡ false }
+        → IsTrue (is_set (word_for bit (words_at_place out.new.items j)) lane) ↔ Forces i (passing known) (lit (slice_index_or cells j d) bit) }
+    ensures invalid { (lane j : ℕ) (bit : Bool) → lane < 64 → is_set valid lane ≡ false → is_set (word_for bit (words_at_place out.new.items j)) lane ≡ false }
 {
     let tally = odd_bits_of(target, odd, view);
     for j in 0..view.len() {
         let literals = literals_at(tally, inverted, place_counts(j, target, odd), view[j]);
-        out.set(j, within(literals, valid));
+        out.set(j, literals.within(valid));
     }
 }

@@ -1,17 +1,15 @@
 //! What a task forces, and what of it is new.
-ghost use Rattle.std.specs.Prelude.{ℕ, ◌≡◌, ◌<◌, ◌&&◌, Bool, true, not, length};
-ghost use Rattle.unroll.specs.Problem.{chunks_in, HaveNoLaterBit};
-ghost use Rattle.unroll.specs.Tasks.{IsTask, task_at, blocks_of, blocks_from};
-ghost use Rattle.netlist.specs.Wiring.{driver_at, is_driven};
-ghost use Rattle.unroll.specs.Bits.{is_set, word_for};
+ghost use Rattle.std.specs.Prelude.{ℕ, ◌≡◌, ◌<◌, ◌&&◌, Bool, not, length};
+ghost use Rattle.unroll.specs.Problem.{HaveNoLaterBit};
+ghost use Rattle.unroll.specs.Tasks.{IsTask, IsTaskAt, task_in, blocks_of, blocks_from};
 ghost use Rattle.gate_rules.specs.Forced.{IsForcedExactly, IsForcedExactlyIn, IsNewExactly, bit_at_place};
 ghost use Rattle.gate_rules.specs.Ticks.{ticked};
 
 use crate::flip_flops::force_flip_flop;
 use crate::gates::force_gate;
 use crate::tally::Tally;
-use sr_model::{Kind, Sig};
-use unroll::{Block, Blocks, PinWord, PinWords, Problem, Task};
+use sr_model::Kind;
+use unroll::{Block, Blocks, InChunk, PinWords, Problem, Task};
 
 /// What a task forces from the literals that its blocks' words have, known literals among it: a bit of `out` is set exactly where its literal is forced at an
 /// instance of the task. `blocks` are the task's, and `view` and `out` have the words of each.
@@ -28,31 +26,27 @@ pub fn forced(p: &Problem, t: Task, blocks: &Blocks, view: &PinWords, out: &mut 
     ensures forced { IsForcedExactly p.now t blocks.now.items view.now.items out.new.items }
     ensures later { HaveNoLaterBit p.now blocks.now.items out.new.items }
 {
-    let target = Block(t.0);
-    forced_in_chunk(p, p.sig_of(target), p.chunk_of(target), blocks, view, out)
+    forced_in_chunk(p, p.in_chunk(Block(t.0)), blocks, view, out)
 }
 
-/// The same for the task of a target in a chunk; there is no division.
+/// The same by signal and chunk; there is no division.
 pub fn forced_in_chunk(
     p: &Problem,
-    target: Sig,
-    chunk: u32,
+    at: InChunk,
     blocks: &Blocks,
     view: &PinWords,
     out: &mut PinWords,
 )
-    requires target { target.0 < length p.now.circuit.drivers }
-    requires driven { is_driven (driver_at p.now.circuit.drivers target.0) ≡ true }
-    requires chunk { chunk < chunks_in p.now }
-    requires blocks { blocks.now.items ≡ blocks_from p.now target chunk }
+    requires task { IsTaskAt p.now at }
+    requires blocks { blocks.now.items ≡ blocks_from p.now at.sig at.chunk }
     requires view { length view.now.items ≡ length blocks.now.items }
     requires out { length out.old.items ≡ length blocks.now.items }
     ensures size { length out.new.items ≡ length blocks.now.items }
     ensures room { out.new.room ≡ out.old.room }
-    ensures forced { IsForcedExactly p.now (task_at p.now target chunk) blocks.now.items view.now.items out.new.items }
+    ensures forced { IsForcedExactly p.now (task_in p.now at) blocks.now.items view.now.items out.new.items }
     ensures later { HaveNoLaterBit p.now blocks.now.items out.new.items }
 {
-    forced_in_cycles_in_chunk(p, target, chunk, u64::MAX, blocks, view, out)
+    forced_in_cycles_in_chunk(p, at, u64::MAX, blocks, view, out)
 }
 
 /// What a task forces at its instances in the cycles of a mask: as `forced`, of these instances alone. Bit i of the mask is that of cycle `64 * chunk + i` of the
@@ -76,42 +70,30 @@ pub fn forced_in_cycles(
     ensures forced { IsForcedExactlyIn p.now t mask blocks.now.items view.now.items out.new.items }
     ensures later { HaveNoLaterBit p.now blocks.now.items out.new.items }
 {
-    let target = Block(t.0);
-    forced_in_cycles_in_chunk(
-        p,
-        p.sig_of(target),
-        p.chunk_of(target),
-        mask,
-        blocks,
-        view,
-        out,
-    )
+    forced_in_cycles_in_chunk(p, p.in_chunk(Block(t.0)), mask, blocks, view, out)
 }
 
-/// The same for the task of a target in a chunk; there is no division.
+/// The same by signal and chunk; there is no division.
 pub fn forced_in_cycles_in_chunk(
     p: &Problem,
-    target: Sig,
-    chunk: u32,
+    at: InChunk,
     mask: u64,
     blocks: &Blocks,
     view: &PinWords,
     out: &mut PinWords,
 )
-    requires target { target.0 < length p.now.circuit.drivers }
-    requires driven { is_driven (driver_at p.now.circuit.drivers target.0) ≡ true }
-    requires chunk { chunk < chunks_in p.now }
-    requires blocks { blocks.now.items ≡ blocks_from p.now target chunk }
+    requires task { IsTaskAt p.now at }
+    requires blocks { blocks.now.items ≡ blocks_from p.now at.sig at.chunk }
     requires view { length view.now.items ≡ length blocks.now.items }
     requires out { length out.old.items ≡ length blocks.now.items }
     ensures size { length out.new.items ≡ length blocks.now.items }
     ensures room { out.new.room ≡ out.old.room }
-    ensures forced { IsForcedExactlyIn p.now (task_at p.now target chunk) mask blocks.now.items view.now.items out.new.items }
+    ensures forced { IsForcedExactlyIn p.now (task_in p.now at) mask blocks.now.items view.now.items out.new.items }
     ensures later { HaveNoLaterBit p.now blocks.now.items out.new.items }
 {
-    match p.net().kind_of(target) {
-        Some(Kind::Dff) => force_flip_flop(p, target, chunk, mask, blocks, view, out),
-        _ => force_gate(p, target, chunk, mask, blocks, view, out),
+    match p.net().kind_of(at.sig) {
+        Some(Kind::Dff) => force_flip_flop(p, at, mask, blocks, view, out),
+        _ => force_gate(p, at, mask, blocks, view, out),
     }
 }
 
@@ -135,42 +117,30 @@ pub fn apply<T: Tally>(
     ensures later { HaveNoLaterBit p.now blocks.now.items out.new.items }
     ensures tally { T.number tally.new ≡ ticked (T.number tally.old) }
 {
-    let target = Block(t.0);
-    apply_in_chunk(
-        p,
-        p.sig_of(target),
-        p.chunk_of(target),
-        blocks,
-        view,
-        out,
-        tally,
-    )
+    apply_in_chunk(p, p.in_chunk(Block(t.0)), blocks, view, out, tally)
 }
 
-/// The same for the task of a target in a chunk; there is no division.
+/// The same by signal and chunk; there is no division.
 pub fn apply_in_chunk<T: Tally>(
     p: &Problem,
-    target: Sig,
-    chunk: u32,
+    at: InChunk,
     blocks: &Blocks,
     view: &PinWords,
     out: &mut PinWords,
     tally: &mut T,
 )
-    requires target { target.0 < length p.now.circuit.drivers }
-    requires driven { is_driven (driver_at p.now.circuit.drivers target.0) ≡ true }
-    requires chunk { chunk < chunks_in p.now }
-    requires blocks { blocks.now.items ≡ blocks_from p.now target chunk }
+    requires task { IsTaskAt p.now at }
+    requires blocks { blocks.now.items ≡ blocks_from p.now at.sig at.chunk }
     requires view { length view.now.items ≡ length blocks.now.items }
     requires out { length out.old.items ≡ length blocks.now.items }
     ensures size { length out.new.items ≡ length blocks.now.items }
     ensures room { out.new.room ≡ out.old.room }
-    ensures new { IsNewExactly p.now (task_at p.now target chunk) blocks.now.items view.now.items out.new.items }
+    ensures new { IsNewExactly p.now (task_in p.now at) blocks.now.items view.now.items out.new.items }
     ensures later { HaveNoLaterBit p.now blocks.now.items out.new.items }
     ensures tally { T.number tally.new ≡ ticked (T.number tally.old) }
 {
     tally.tick();
-    forced_in_chunk(p, target, chunk, blocks, view, out);
+    forced_in_chunk(p, at, blocks, view, out);
     take_out(view, out);
 }
 
@@ -183,18 +153,7 @@ fn take_out(view: &PinWords, out: &mut PinWords)
         → bit_at_place out.new.items j bit i ≡ (bit_at_place out.old.items j bit i && not (bit_at_place view.now.items j bit i)) }
 {
     for j in 0..view.len() {
-        let words = without(out.as_slice()[j], view.as_slice()[j]);
+        let words = out.as_slice()[j].without(view.as_slice()[j]);
         out.set(j, words);
-    }
-}
-
-/// The literals of one cell's words that the other ones don't have.
-#[tactic(auto, using(crate::proofs::AndLikeWords::both_set, crate::proofs::AndLikeWords::not_set))]
-fn without(words: PinWord, known: PinWord) -> PinWord
-    ensures { (i : ℕ) (bit : Bool) → i < 64 → is_set (word_for bit result) i ≡ (is_set (word_for bit words) i && not (is_set (word_for bit known) i)) }
-{
-    PinWord {
-        zero: words.zero & !known.zero,
-        one: words.one & !known.one,
     }
 }

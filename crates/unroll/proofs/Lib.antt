@@ -8,6 +8,5 @@ mod AdjacentTasks
 mod ConstantTasks
 mod CellTests
 mod WordBits
-mod BlockCells
 mod SharedCells
 pub mod lemmas

@@ -4,6 +4,7 @@ use Rattle.std.specs.Int.{bit_at, bit_not, w64}
 use Rattle.std.proofs.lemmas.Nat.Bits.{bit_at_and, bit_at_or, bit_at_xor, bit_at_not, bit_at-lt, bit_at-zero, bit_at_above, bit_at_cat_low, bit_at_cat_high}
 use Rattle.std.proofs.lemmas.Nat.{pow_pos, div-add-mod', and_mask}
 use Rattle.std.proofs.Math.Nat.{mod-lt}
+use Rattle.sr_model.specs.XorLike.{plus}
 use Rattle.unroll.specs.Bits.{is_set}
 
 -- the test of a bit
@@ -34,12 +35,7 @@ not-digit zero p = refl
 not-digit (suc zero) p = refl
 not-digit (suc (suc a)) p = absurd (omega arith)
 
--- whether the two bits differ
-abbrev pub differ : Bool → Bool → Bool
-differ true b = not b
-differ false b = b
-
-xor-digits : (a b : ℕ) → a < 2 → b < 2 → eqb ((a + b) % 2) 1 ≡ differ (eqb a 1) (eqb b 1)
+xor-digits : (a b : ℕ) → a < 2 → b < 2 → eqb ((a + b) % 2) 1 ≡ plus (eqb a 1) (eqb b 1)
 xor-digits zero zero p q = refl
 xor-digits zero (suc zero) p q = refl
 xor-digits (suc zero) zero p q = refl
@@ -56,7 +52,7 @@ pub is_set_and : (a b i : ℕ) → is_set (bit_and a b) i ≡ (is_set a i && is_
 unfolding is_set
 is_set_and a b i = ap (λ n. eqb n 1) (bit_at_and a b i) ∙ and-digits (bit_at a i) (bit_at b i) (bit_at-lt a i) (bit_at-lt b i)
 
-pub is_set_xor : (a b i : ℕ) → is_set (bit_xor a b) i ≡ differ (is_set a i) (is_set b i)
+pub is_set_xor : (a b i : ℕ) → is_set (bit_xor a b) i ≡ plus (is_set a i) (is_set b i)
 unfolding is_set
 is_set_xor a b i = ap (λ n. eqb n 1) (bit_at_xor a b i) ∙ xor-digits (bit_at a i) (bit_at b i) (bit_at-lt a i) (bit_at-lt b i)
 

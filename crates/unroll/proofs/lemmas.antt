@@ -1,5 +1,5 @@
 -- The lemmas that proofs of other crates may cite.
-pub mod Words
-pub mod Blocks
+pub mod Laws
 pub mod Tasks
+pub mod Words
 pub mod FlatMaps

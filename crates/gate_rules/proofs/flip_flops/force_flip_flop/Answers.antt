@@ -31,8 +31,8 @@ loop-place-preserved c =
 pub returns-clause-forced : goal.returns-clause-forced
 returns-clause-forced c j i bit below within =
     let u = c.args.p.now in
-    let target = c.args.target in
-    let pin = data_pin (driver_at c.args.p.now.circuit.drivers c.args.target.0) in
+    let target = c.args.at.sig in
+    let pin = data_pin (driver_at c.args.p.now.circuit.drivers c.args.at.sig.0) in
     let view = c.args.view.now.items in
     let items = c.args.blocks.now.items in
     let blocks = c.as_slice-block-items.result.now in
@@ -41,7 +41,7 @@ returns-clause-forced c j i bit below within =
     let b = get_or items j (record { 0 = 0 }) in
     let same : blocks ≡ items = c.as_slice-block-items.ensures in
     let done = c.loop-place.invariant.done j (omega (arith, ap length same, below)) i bit within ∙ ap (λ bs. is_bit_of cells (get_or bs j (record { 0 = 0 })) shared i) same in
-    subst (λ set. IsTrue set ↔ ForcedInCycles u (task_at u target c.args.chunk) c.args.mask (view_has u items view) (lit (cell_of u b i) bit)) (sym done)
-    (block-forced u target pin c.args.chunk c.requires.chunk cells c.new-cells.ensures.pin c.new-cells.ensures.own c.new-cells.ensures.next
+    subst (λ set. IsTrue set ↔ ForcedInCycles u (task_at u target c.args.at.chunk) c.args.mask (view_has u items view) (lit (cell_of u b i) bit)) (sym done)
+    (block-forced u target pin c.args.at.chunk c.requires.inside.1 cells c.new-cells.ensures.pin c.new-cells.ensures.own c.new-cells.ensures.next
     (bit_and c.valid_next_bits.result c.args.mask) c.args.mask
     (λ k h. is_set_and c.valid_next_bits.result c.args.mask k ∙ ap (λ b. b && is_set c.args.mask k) (c.valid_next_bits.ensures k h)) items view bit shared (λ k h. c.shared-shared.ensures k bit h) c.new-cells.ensures.driver b i within)

@@ -1,5 +1,6 @@
 use Rattle.std.proofs.Common.{◌≡◌, length, get_or, sym, ap, ◌∙◌, arith}
 use Rattle.std.proofs.lemmas.Bool.{eqb-true}
+use Rattle.unroll.specs.Bits.{no_words}
 use Rattle.gate_rules.specs.Forced.{words_of}
 use Rattle.gate_rules.proofs.FlipFlopWords.{words-found, words-none}
 use Rattle.gate_rules.proofs.flip_flops.words_beside.Goals as goal
@@ -11,7 +12,7 @@ returns-then-eq c =
     let same : items ≡ c.args.blocks.now.items = c.as_slice-other-items.ensures in
     let also : words ≡ c.args.view.now.items = c.as_slice-words.ensures in
     let size : length words ≡ length items = ap length also ∙ c.requires ∙ sym (ap length same) in
-    words-found items words c.args.block (record { 0 = 0 }) (record { zero = 0; one = 0 }) c.loop-place.place size c.loop-place-test.true c.loop-place.invariant
+    words-found items words c.args.block (record { 0 = 0 }) no_words c.loop-place.place size c.loop-place-test.true c.loop-place.invariant
     (eqb-true (get_or items c.loop-place.place (record { 0 = 0 })).0 c.args.block.0 (sym c.eq.ensures ∙ c.if-eq.true))
     ∙ ap (λ bs. words_of bs words c.args.block) same ∙ ap (λ ws. words_of c.args.blocks.now.items ws c.args.block) also
 
@@ -22,5 +23,5 @@ returns c =
     let same : items ≡ c.args.blocks.now.items = c.as_slice-other-items.ensures in
     let also : words ≡ c.args.view.now.items = c.as_slice-words.ensures in
     let size : length words ≡ length items = ap length also ∙ c.requires ∙ sym (ap length same) in
-    words-none items words c.args.block (record { 0 = 0 }) size (λ k below. c.loop-place.invariant k (omega arith))
+    c.none.ensures.words ∙ words-none items words c.args.block (record { 0 = 0 }) size (λ k below. c.loop-place.invariant k (omega arith))
     ∙ ap (λ bs. words_of bs words c.args.block) same ∙ ap (λ ws. words_of c.args.blocks.now.items ws c.args.block) also

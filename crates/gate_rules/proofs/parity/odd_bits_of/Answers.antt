@@ -2,16 +2,16 @@ use Rattle.std.proofs.Common.{◌≡◌, ℕ, ◌+◌, ◌&&◌, Bool, true, fal
 use Rattle.std.specs.List.{list_all}
 use Rattle.unroll.specs.declared.words.PinWord.{PinWord}
 use Rattle.gate_rules.specs.declared.parity.OddBits.{OddBits}
-use Rattle.gate_rules.specs.Lanes.{words_at}
+use Rattle.gate_rules.specs.Lanes.{words_at_place}
 use Rattle.gate_rules.specs.OddPlaces.{counts, counting, IsOddBits}
 use Rattle.gate_rules.proofs.Counting.{counting_more, counting_same}
-use Rattle.gate_rules.proofs.OddWords.{odd_bits_none}
+use Rattle.gate_rules.proofs.LaneWords.{none_counted}
 use Rattle.gate_rules.proofs.parity.odd_bits_of.Goals as goal
 use Rattle.gate_rules.proofs.parity.odd_bits_of.Goals.{then-place_counts, else-place_counts}
 
 pub loop-j-init : goal.loop-j-init
 loop-j-init c = record {
-  tally = λ lane within. odd_bits_none lane (record { missing = 0; missing_twice = 0; both = 0; both_twice = 0; ones = 0; lone = true }) refl refl refl refl refl;
+  tally = λ lane within. none_counted lane;
   lone = refl;
 }
 
@@ -27,9 +27,9 @@ loop-j-preserved c =
           let count : counts target odd j ≡ true = sym c.place_counts.ensures ∙ w.if-place_counts.true in
           let more : j ∷ counting target odd j ≡ counting target odd (j + 1) = sym (counting_more target odd j count) in
           record {
-            tally = λ lane within. subst (λ js. IsOddBits lane (map (words_at view) js) t) more
-                (subst (IsOddBits lane (map (words_at view) (j ∷ counting target odd j))) (sym w.tally-is)
-                (w.with-tally.ensures.tally lane (map (words_at view) (counting target odd j)) within (c.loop-j.invariant.tally lane within)));
+            tally = λ lane within. subst (λ js. IsOddBits lane (map (words_at_place view) js) t) more
+                (subst (IsOddBits lane (map (words_at_place view) (j ∷ counting target odd j))) (sym w.tally-is)
+                (w.with-tally.ensures.tally lane (map (words_at_place view) (counting target odd j)) within (c.loop-j.invariant.tally lane within)));
             lone = ap (λ (x : OddBits). x.lone) w.tally-is ∙ w.with-tally.ensures.lone ∙ ap (λ b. eqb j target && b) c.loop-j.invariant.lone
                 ∙ ap (list_all (λ k. eqb k target)) more;
           }
@@ -37,8 +37,8 @@ loop-j-preserved c =
           let count : counts target odd j ≡ false = sym c.place_counts.ensures ∙ w.if-place_counts.false in
           let same : counting target odd j ≡ counting target odd (j + 1) = sym (counting_same target odd j count) in
           record {
-            tally = λ lane within. subst (λ js. IsOddBits lane (map (words_at view) js) t) same
-                (subst (IsOddBits lane (map (words_at view) (counting target odd j))) (sym w.tally-is) (c.loop-j.invariant.tally lane within));
+            tally = λ lane within. subst (λ js. IsOddBits lane (map (words_at_place view) js) t) same
+                (subst (IsOddBits lane (map (words_at_place view) (counting target odd j))) (sym w.tally-is) (c.loop-j.invariant.tally lane within));
             lone = ap (λ (x : OddBits). x.lone) w.tally-is ∙ c.loop-j.invariant.lone ∙ ap (list_all (λ k. eqb k target)) same;
           }
     ]

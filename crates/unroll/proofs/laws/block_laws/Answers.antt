@@ -1,5 +1,4 @@
-use Rattle.unroll.proofs.BlockNumbers.{some_chunk, block-sig, block-chunk, block-within, block-itself, task-itself, chunk-within, sig-within, cycle-chunk}
-use Rattle.unroll.proofs.BlockCells.{cell-itself, bit-small, cell-bit, blocks-at}
+use Rattle.unroll.proofs.BlockNumbers.{some_chunk, block-sig, block-chunk, block-within, block-itself, task-itself, chunk-within, sig-within, cycle-chunk, cell-itself, bit-small, cell-bit, blocks-at}
 use Rattle.unroll.proofs.laws.block_laws.Goals as goal
 
 pub returns : goal.returns
