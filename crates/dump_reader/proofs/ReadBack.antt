@@ -69,11 +69,11 @@ characters_plain (bit ∷ bits) = All-cons IsPlain (bit_character bit) (map bit_
 
 -- ---- a printed line
 
-abbrev joined : List ℕ → List ℕ → List ℕ
-joined first second = first ++ 32 ∷ [] ++ second
+abbrev spaced : List ℕ → List ℕ → List ℕ
+spaced first second = first ++ 32 ∷ [] ++ second
 
-joined_tokens : (first second : List ℕ) → IsWord first → IsWord second → HasTwoTokens (joined first second) first second
-joined_tokens first second h k = record {
+spaced_tokens : (first second : List ℕ) → IsWord first → IsWord second → HasTwoTokens (spaced first second) first second
+spaced_tokens first second h k = record {
   gap = 32 ∷ [];
   whole = refl;
   is_first = (h.0, no_blank first h.1);
@@ -88,8 +88,8 @@ record IsPrinted (line : List ℕ) : Type 0 where
   begins : prefix_len is_blank line ≡ 0
   ends : 32 < get_or line (length line - 1) 0
 
-joined_printed : (first second : List ℕ) → IsWord first → IsWord second → IsPrinted (joined first second)
-joined_printed first second h k =
+spaced_printed : (first second : List ℕ) → IsWord first → IsWord second → IsPrinted (spaced first second)
+spaced_printed first second h k =
     let front : List ℕ = first ++ 32 ∷ [] in
     let some_first : 0 < length first = some_bytes first h.0 in
     let some_second : 0 < length second = some_bytes second k.0 in
@@ -196,7 +196,7 @@ row_states c cycles row circuit count is = record {
   characters = map bit_character row.bits;
   names_signal = record {
     name = get_or c.names row.sig.0 [];
-    tokens = joined_tokens (get_or c.names row.sig.0 []) (map bit_character row.bits) (row_name c cycles row circuit is) (row_characters c cycles row count is);
+    tokens = spaced_tokens (get_or c.names row.sig.0 []) (map bit_character row.bits) (row_name c cycles row circuit is) (row_characters c cycles row count is);
     is_name = slice_get-get_or c.names row.sig.0 [] (omega (arith, is.1, circuit.one_name_each));
   };
   full = length-map row.bits bit_character ∙ is.0;
@@ -206,7 +206,7 @@ row_states c cycles row circuit count is = record {
 rows_printed : (c : Circuit) (cycles : ℕ) (rows : List Row) → IsCircuit c → IsCount cycles → All (IsRowOf c cycles) rows → ArePrinted (map (row_text c.names) rows)
 rows_printed c cycles rows circuit count all =
     All-map IsPrinted (row_text c.names) rows (λ k d lt.
-    joined_printed (get_or c.names (get_or rows k d).sig.0 []) (map bit_character (get_or rows k d).bits) (row_name c cycles (get_or rows k d) circuit (all k d lt)) (row_characters c cycles (get_or rows k d) count (all k d lt)))
+    spaced_printed (get_or c.names (get_or rows k d).sig.0 []) (map bit_character (get_or rows k d).bits) (row_name c cycles (get_or rows k d) circuit (all k d lt)) (row_characters c cycles (get_or rows k d) count (all k d lt)))
 
 rows_stated : (c : Circuit) (cycles n : ℕ) (rows : List Row) → IsCircuit c → IsCount cycles → All (IsRowOf c cycles) rows → State c.names cycles (from_number n (map (row_text c.names) rows)) rows
 rows_stated c cycles n [] circuit count all = tt
@@ -236,8 +236,8 @@ read_back c r circuit is within few =
     let rows : List (List ℕ) = map (row_text c.names) r.rows in
     let cycles_line : List ℕ = codes "cycles " ++ decimal r.cycles in
     let are : ArePrinted (printed_lines c.names r) =
-    All-cons IsPrinted (codes "srdump 1") (cycles_line ∷ rows) (joined_printed (codes "srdump") (codes "1") head_word.0 head_word.1)
-    (All-cons IsPrinted cycles_line rows (joined_printed (codes "cycles") (decimal r.cycles) cycles_word digits) (rows_printed c r.cycles r.rows circuit is.count each)) in
+    All-cons IsPrinted (codes "srdump 1") (cycles_line ∷ rows) (spaced_printed (codes "srdump") (codes "1") head_word.0 head_word.1)
+    (All-cons IsPrinted cycles_line rows (spaced_printed (codes "cycles") (decimal r.cycles) cycles_word digits) (rows_printed c r.cycles r.rows circuit is.count each)) in
     let lines : numbered (printed c.names r) ≡ from_number 1 (printed_lines c.names r) =
     ap (numbered_from 1) (printed_text (printed_lines c.names r) are) ∙ printed_numbered 1 (printed_lines c.names r) are in
     record {
@@ -248,8 +248,8 @@ read_back c r circuit is within few =
           head = (1, codes "srdump 1");
           cycles_line = cycles_line;
           whole = lines;
-          is_head = joined_tokens (codes "srdump") (codes "1") head_word.0 head_word.1;
-          is_cycles_line = (is.count, joined_tokens (codes "cycles") (decimal r.cycles) cycles_word digits);
+          is_head = spaced_tokens (codes "srdump") (codes "1") head_word.0 head_word.1;
+          is_cycles_line = (is.count, spaced_tokens (codes "cycles") (decimal r.cycles) cycles_word digits);
         };
         few = few;
       };

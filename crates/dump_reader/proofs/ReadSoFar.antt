@@ -11,7 +11,7 @@ use Rattle.sr_model.specs.Dump.{Row}
 use Rattle.dump_reader.specs.declared.refusal.DumpRefusal.{DumpRefusal}
 use Rattle.dump_reader.specs.declared.refusal.DumpRefusal.TheVariants.{Head, Cycles, TooManyCells, RowSyntax, UnknownSignal, TwiceNamed, RowLength, BadBit, NoMemory}
 use Rattle.dump_reader.specs.declared.dump.Tri.{Tri}
-use Rattle.dump_reader.specs.Recording.{Recording, recorded, bit_of, row_of}
+use Rattle.dump_reader.specs.Recording.{Recording, recorded, tri_bit, row_of}
 use Rattle.dump_reader.specs.Lines.{text_lines, numbered, numbered_from, past_end}
 use Rattle.dump_reader.specs.Grammar.{IsCyclesLine, FailsFirst, HasFittingFront, StatesRow, StateRows, Spells, IsRowFault, bit_read}
 use Rattle.dump_reader.specs.Reading.{ReadsHead, ReadsCycles, IsCyclesRefusal}
@@ -131,4 +131,4 @@ from_first text passed lines zero is =
 -- a row that a line states has a cell for each cycle
 pub states_full : (names : List (List ℕ)) (cycles : ℕ) (line : List ℕ) (sig : Sig) (cells : List Tri) → StatesRow names cycles line (row_of sig cells) → length cells ≡ cycles
 states_full names cycles line sig cells states =
-    omega (arith, states.full, ap (λ (xs : List (Option (Option Bool))). length xs) states.bits, length-map states.characters bit_read, length-map (map bit_of cells) (λ (bit : Option Bool). Some bit), length-map cells bit_of)
+    omega (arith, states.full, ap (λ (xs : List (Option (Option Bool))). length xs) states.bits, length-map states.characters bit_read, length-map (map tri_bit cells) (λ (bit : Option Bool). Some bit), length-map cells tri_bit)
