@@ -10,7 +10,8 @@ use Rattle.sr_model.specs.declared.cells.Sig.{Sig}
 use Rattle.sr_model.specs.Dump.{Row}
 use Rattle.dump_reader.specs.declared.dump.Tri.{Tri}
 use Rattle.dump_reader.specs.Recording.{Recording, tri_bit}
-use Rattle.dump_reader.specs.Print.{bit_character, row_text, printed_lines, printed, with_line_feed}
+use Rattle.sr_text.specs.Lines.{with_line_feed}
+use Rattle.dump_reader.specs.Print.{bit_character, row_text, printed_lines, printed}
 
 abbrev pub first_rows : Recording → ℕ → Recording
 first_rows r n = record { cycles = r.cycles; rows = take n r.rows }
