@@ -7,24 +7,24 @@ use Rattle.sr_model.specs.declared.cells.Sig.{Sig}
 use Rattle.sr_model.specs.Netlist.{Valuation, cell_at}
 use Rattle.sr_model.specs.Dump.{Row}
 use Rattle.dump_reader.specs.declared.dump.Tri.{Tri}
-use Rattle.dump_reader.specs.Recording.{bit_of, row_of, recorded}
+use Rattle.dump_reader.specs.Recording.{tri_bit, row_of, recorded}
 use Rattle.cycle_sim.specs.Simulation.{traced_row, traced_rows}
 
 -- one cell more
-pub cells-more : (f : ℕ → Option Bool) (cells new : List Tri) (n : ℕ) (x : Tri) → new ≡ cells ++ x ∷ [] → bit_of x ≡ f n → map bit_of cells ≡ map f (range_with_len 0 n) → map bit_of new ≡ map f (range_with_len 0 (n + 1))
+pub cells-more : (f : ℕ → Option Bool) (cells new : List Tri) (n : ℕ) (x : Tri) → new ≡ cells ++ x ∷ [] → tri_bit x ≡ f n → map tri_bit cells ≡ map f (range_with_len 0 n) → map tri_bit new ≡ map f (range_with_len 0 (n + 1))
 cells-more f cells new n x is one before =
-    ap (map bit_of) is ∙ map-append bit_of cells (x ∷ []) ∙ ap (λ xs. xs ++ bit_of x ∷ []) before ∙ ap (λ b. map f (range_with_len 0 n) ++ b ∷ []) one ∙ sym (map-range_with_len_more f 0 n n (omega arith))
+    ap (map tri_bit) is ∙ map-append tri_bit cells (x ∷ []) ∙ ap (λ xs. xs ++ tri_bit x ∷ []) before ∙ ap (λ b. map f (range_with_len 0 n) ++ b ∷ []) one ∙ sym (map-range_with_len_more f 0 n n (omega arith))
 
 -- there are as many cells as cycles
-pub cells-size : (f : ℕ → Option Bool) (cells : List Tri) (n : ℕ) → map bit_of cells ≡ map f (range_with_len 0 n) → length cells ≡ n
-cells-size f cells n is = sym (length-map cells bit_of) ∙ ap length is ∙ length-map-range_with_len f 0 n
+pub cells-size : (f : ℕ → Option Bool) (cells : List Tri) (n : ℕ) → map tri_bit cells ≡ map f (range_with_len 0 n) → length cells ≡ n
+cells-size f cells n is = sym (length-map cells tri_bit) ∙ ap length is ∙ length-map-range_with_len f 0 n
 
 -- the cells of a signal are its row
-pub row-is : (f : ℕ → Bool) (v : Valuation) (cells : List Tri) (n : ℕ) (s : Sig) → map bit_of cells ≡ map (λ cycle. Some (f cycle)) (range_with_len 0 n) → ((cycle : ℕ) → cycle < n → f cycle ≡ v (cell_at cycle s))
+pub row-is : (f : ℕ → Bool) (v : Valuation) (cells : List Tri) (n : ℕ) (s : Sig) → map tri_bit cells ≡ map (λ cycle. Some (f cycle)) (range_with_len 0 n) → ((cycle : ℕ) → cycle < n → f cycle ≡ v (cell_at cycle s))
     → row_of s cells ≡ traced_row v n s
 row-is f v cells n s is same =
     ap (λ bits. record { sig = s; bits = bits })
-    (fill_by_all (λ cycle. Some (v (cell_at cycle s))) (map bit_of cells) n (Some (v (cell_at 0 s))) (ap length is ∙ length-map-range_with_len (λ cycle. Some (f cycle)) 0 n) (λ k h.
+    (fill_by_all (λ cycle. Some (v (cell_at cycle s))) (map tri_bit cells) n (Some (v (cell_at 0 s))) (ap length is ∙ length-map-range_with_len (λ cycle. Some (f cycle)) 0 n) (λ k h.
     ap (λ xs. get_or xs k (Some (v (cell_at 0 s)))) is ∙ get_or-map-range_with_len (λ cycle. Some (f cycle)) 0 n k k (Some (v (cell_at 0 s))) h (omega arith) ∙ ap Some (same k h)))
 
 -- one row more

@@ -3,7 +3,7 @@ ghost use Rattle.std.specs.Prelude.{◌≡◌, ◌≢◌, ◌<◌, ◌≤◌, �
 ghost use Rattle.std.specs.List.{AllPairs, range_with_len};
 ghost use Rattle.sr_model.specs.declared.cells.Sig.{Sig as AnySig};
 ghost use Rattle.sr_model.specs.Netlist.{Valuation};
-ghost use Rattle.dump_reader.specs.Recording.{IsCount, bit_of};
+ghost use Rattle.dump_reader.specs.Recording.{IsCount, tri_bit};
 ghost use Rattle.cycle_sim.specs.BitTable.{bit_in};
 ghost use Rattle.cycle_sim.specs.Simulation.{IsSimulated, bits_of, traced_rows};
 
@@ -58,7 +58,7 @@ pub fn simulate_trace(
 /// Puts the bits of a column into the cells of a row.
 fn fill(bits: &BitRows, column: usize, cells: &mut Sequence<Tri>) -> Result<(), NoMemory>
     requires column { column < bits.now.width }
-    ensures { OnOk result (map bit_of cells.new.items ≡ map (λ cycle. Some (bit_in bits.now cycle column)) (range_with_len 0 bits.now.count)) }
+    ensures { OnOk result (map tri_bit cells.new.items ≡ map (λ cycle. Some (bit_in bits.now cycle column)) (range_with_len 0 bits.now.count)) }
 {
     cells.clear();
     for cycle in 0..bits.count() {
@@ -68,7 +68,7 @@ fn fill(bits: &BitRows, column: usize, cells: &mut Sequence<Tri>) -> Result<(), 
 }
 
 fn tri(bit: bool) -> Tri
-    ensures { bit_of result ≡ Some bit }
+    ensures { tri_bit result ≡ Some bit }
 {
     if bit { Tri::One } else { Tri::Zero }
 }

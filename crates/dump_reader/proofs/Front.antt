@@ -6,7 +6,7 @@ use Rattle.std.specs.Fmt.{decimal}
 use Rattle.std.proofs.lemmas.Bool.{true≢false, false≢true, not-true, not-false}
 use Rattle.std.proofs.lemmas.Option.{none-some, same_Some, some_pair_parts}
 use Rattle.std.proofs.lemmas.Slice.Eq.{bytes_eq-Decides}
-use Rattle.dump_reader.specs.Lines.{HasTwoTokens}
+use Rattle.dump_reader.specs.Tokens.{HasTwoTokens}
 use Rattle.dump_reader.specs.Grammar.{IsCyclesLine}
 
 abbrev pub pair : List ℕ → List ℕ → List ℕ × List ℕ

@@ -10,7 +10,8 @@ use Rattle.sr_model.specs.Dump.{Row, is_bit, dump_has}
 use Rattle.sr_model.proofs.lemmas.Members.{not_in_nil, Contains-here, Contains-there, Contains-cases}
 use Rattle.dump_reader.specs.Grammar.{NamesSignal, StatesRow, bit_read}
 use Rattle.dump_reader.specs.Laws.{RecordsLiteral, HasLiteralsOfRows}
-use Rattle.dump_reader.proofs.SameRows.{HasOwnNames, Line, State, same_signal}
+use Rattle.sr_text.proofs.lemmas.FirstFaults.{Line}
+use Rattle.dump_reader.proofs.SameRows.{HasOwnNames, State, same_signal}
 
 is_bit-known : (o : Option (Option Bool)) (b : Bool) → is_bit o b ≡ true → o ≡ Some (Some b)
 is_bit-known (Some (Some true)) true e = refl

@@ -5,12 +5,13 @@ use Rattle.std.proofs.lemmas.Bool.{cases_eq, cases_lt}
 use Rattle.dump_reader.specs.declared.refusal.DumpRefusal.{DumpRefusal}
 use Rattle.dump_reader.specs.declared.refusal.DumpRefusal.TheVariants.{Head, Cycles, TooManyCells, NoMemory}
 use Rattle.dump_reader.specs.Recording.{Recording}
-use Rattle.dump_reader.specs.Lines.{numbered, past_end, HasTwoTokens}
+use Rattle.sr_text.specs.Lines.{numbered, past_end}
+use Rattle.dump_reader.specs.Tokens.{HasTwoTokens}
 use Rattle.dump_reader.specs.Grammar.{IsHead, IsCyclesLine, FailsFirst, Spells, block_count}
 use Rattle.dump_reader.specs.Refusal.{IsRefusal}
 use Rattle.dump_reader.specs.Laws.{IsReadOrRefused}
 use Rattle.dump_reader.proofs.Tokens.{two_or_none, same_tokens}
-use Rattle.dump_reader.proofs.SameRows.{Line}
+use Rattle.sr_text.proofs.lemmas.FirstFaults.{Line}
 use Rattle.dump_reader.proofs.ReadSoFar.{HasRead, starts, more, all_read, row_refused}
 use Rattle.dump_reader.proofs.RowOrRefused.{same_or_other, row_or_bad}
 

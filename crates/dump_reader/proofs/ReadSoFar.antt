@@ -11,8 +11,8 @@ use Rattle.sr_model.specs.Dump.{Row}
 use Rattle.dump_reader.specs.declared.refusal.DumpRefusal.{DumpRefusal}
 use Rattle.dump_reader.specs.declared.refusal.DumpRefusal.TheVariants.{Head, Cycles, TooManyCells, RowSyntax, UnknownSignal, TwiceNamed, RowLength, BadBit, NoMemory}
 use Rattle.dump_reader.specs.declared.dump.Tri.{Tri}
-use Rattle.dump_reader.specs.Recording.{Recording, recorded, bit_of, row_of}
-use Rattle.dump_reader.specs.Lines.{text_lines, numbered, numbered_from, past_end}
+use Rattle.dump_reader.specs.Recording.{Recording, recorded, tri_bit, row_of}
+use Rattle.sr_text.specs.Lines.{numbered, past_end}
 use Rattle.dump_reader.specs.Grammar.{IsCyclesLine, FailsFirst, HasFittingFront, StatesRow, StateRows, Spells, IsRowFault, bit_read}
 use Rattle.dump_reader.specs.Reading.{ReadsHead, ReadsCycles, IsCyclesRefusal}
 use Rattle.dump_reader.specs.Refusal.{IsRefusal, IsRowRefusal}
@@ -77,13 +77,9 @@ row_fault : (IsFault : ℕ → List Row → List ℕ → Type 0) (names : List (
     → left ≡ (number, line) ∷ rest → at ≡ number → IsFault r.cycles r.rows line → IsRowFault IsFault names signals text at
 row_fault IsFault names signals text r number at line left rest read is same fault = subst (IsRowFault IsFault names signals text) (sym same) (record {
   cycles = r.cycles;
-  before = read.before;
-  bad = line;
-  after = rest;
-  front = subst (HasFittingFront signals text r.cycles) (ap (λ (ls : List (ℕ × List ℕ)). read.before ++ ls) is) read.front;
-  rows = r.rows;
-  read = read.rows;
-  fault = fault;
+  lines = read.before ++ left;
+  front = read.front;
+  first = record { before = read.before; bad = line; after = rest; whole = ap (λ (ls : List (ℕ × List ℕ)). read.before ++ ls) is; said = r.rows; say = read.rows; fault = fault };
 })
 
 pub row_refused : (names : List (List ℕ)) (signals : ℕ) (text : List ℕ) (r : Recording) (number : ℕ) (line : List ℕ) (left rest : List (ℕ × List ℕ)) (e : DumpRefusal) → HasRead names signals text r left → left ≡ (number, line) ∷ rest
@@ -123,12 +119,7 @@ cycles_refused names signals text past lines rest (TooManyCells at product) is l
 cycles_refused names signals text past lines rest NoMemory is last head refused = tt
 cycles_refused names signals text past lines rest _ is last head refused = absurd refused
 
--- the lines of a text, before any is read
-pub from_first : (text : List ℕ) (passed : ℕ) (lines : List (List ℕ)) → passed ≡ 0 → lines ≡ text_lines text → (numbered_from (passed + 1) lines ≡ numbered text) × (passed + length lines + 1 ≡ past_end text)
-from_first text passed lines zero is =
-    (ap (λ n. numbered_from (n + 1) lines) zero ∙ ap (λ (ls : List (List ℕ)). numbered_from 1 ls) is, omega (arith, zero, ap (λ (ls : List (List ℕ)). length ls) is))
-
 -- a row that a line states has a cell for each cycle
 pub states_full : (names : List (List ℕ)) (cycles : ℕ) (line : List ℕ) (sig : Sig) (cells : List Tri) → StatesRow names cycles line (row_of sig cells) → length cells ≡ cycles
 states_full names cycles line sig cells states =
-    omega (arith, states.full, ap (λ (xs : List (Option (Option Bool))). length xs) states.bits, length-map states.characters bit_read, length-map (map bit_of cells) (λ (bit : Option Bool). Some bit), length-map cells bit_of)
+    omega (arith, states.full, ap (λ (xs : List (Option (Option Bool))). length xs) states.bits, length-map states.characters bit_read, length-map (map tri_bit cells) (λ (bit : Option Bool). Some bit), length-map cells tri_bit)

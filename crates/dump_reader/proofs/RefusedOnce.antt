@@ -10,12 +10,13 @@ use Rattle.sr_model.specs.Dump.{Row}
 use Rattle.dump_reader.specs.declared.refusal.DumpRefusal.{DumpRefusal}
 use Rattle.dump_reader.specs.declared.refusal.DumpRefusal.TheVariants.{Head, Cycles, TooManyCells, RowSyntax, UnknownSignal, TwiceNamed, RowLength, BadBit, NoMemory}
 use Rattle.dump_reader.specs.Recording.{Recording, recorded}
-use Rattle.dump_reader.specs.Lines.{numbered, past_end}
+use Rattle.sr_text.specs.Lines.{numbered, past_end}
 use Rattle.dump_reader.specs.Grammar.{IsHead, IsCyclesLine, FailsFirst, HasFront, HasFittingFront, NamesSignal, NamesNewSignal, StatesRow, StateRows, Spells, IsHeadFault, IsCyclesFault, IsCellsFault, IsSyntaxFault, IsNameFault, IsTwiceFault, IsLengthFault, IsRowFault, bit_read, block_count}
 use Rattle.dump_reader.specs.Refusal.{IsRefusal, IsRowRefusal}
 use Rattle.dump_reader.specs.Laws.{IsRefusedOnce, DumpsAreNotRefused}
+use Rattle.sr_text.proofs.lemmas.FirstFaults.{Line, part, same_cons}
 use Rattle.dump_reader.proofs.Tokens.{same_tokens}
-use Rattle.dump_reader.proofs.SameRows.{HasOwnNames, Line, State, same_cons, same_front, same_signal, same_row, same_rows}
+use Rattle.dump_reader.proofs.SameRows.{HasOwnNames, State, same_front, same_signal, same_row, same_rows}
 
 -- ---- the first of some lines
 
@@ -108,21 +109,7 @@ row_states names cycles rows number text (RowLength m) row own h some states fre
 row_states names cycles rows number text (BadBit m) row own h some states fresh =
     h.1.3 (subst (All (λ c. IsSome (bit_read c))) (same_characters names rows text states.characters h.1.0 own (row.sig, states.names_signal, fresh) h.1.1) (all_bits states.characters row.bits states.bits))
 
--- ---- where lines part
-
--- the lists have the same place, or one goes on over the other's
-part : (xs ys us vs : List Line) (p q : Line) → xs ++ p ∷ us ≡ ys ++ q ∷ vs
-    → ((xs ≡ ys) × (p ≡ q)) ⊎ (((more : List Line) × (ys ≡ xs ++ p ∷ more)) ⊎ ((more : List Line) × (xs ≡ ys ++ q ∷ more)))
-part [] [] us vs p q e = inl (refl, (same_cons p q us vs e).0)
-part [] (y ∷ ys) us vs p q e = inr (inl (ys, ap (λ (l : Line). l ∷ ys) (sym (same_cons p y us (ys ++ q ∷ vs) e).0)))
-part (x ∷ xs) [] us vs p q e = inr (inr (xs, ap (λ (l : Line). l ∷ xs) (same_cons x q (xs ++ p ∷ us) vs e).0))
-part (x ∷ xs) (y ∷ ys) us vs p q e =
-    let both = same_cons x y (xs ++ p ∷ us) (ys ++ q ∷ vs) e in
-    elim (part xs ys us vs p q both.1) [
-      | inl same ↦ inl (ap (λ (l : Line). l ∷ xs) both.0 ∙ ap (λ (ls : List Line). y ∷ ls) same.0, same.1)
-      | inr (inl on) ↦ inr (inl (on.0, ap (λ (l : Line). l ∷ ys) (sym both.0) ∙ ap (λ (ls : List Line). x ∷ ls) on.1))
-      | inr (inr on) ↦ inr (inr (on.0, ap (λ (l : Line). l ∷ xs) both.0 ∙ ap (λ (ls : List Line). y ∷ ls) on.1))
-    ]
+-- ---- a line that is read
 
 -- the rows of a front go on with the row of the next line
 record GoesOn (names : List (List ℕ)) (cycles : ℕ) (line : List ℕ) (rows all : List Row) : Type 0 where
@@ -172,7 +159,13 @@ data Broken (names : List (List ℕ)) (signals : ℕ) (text : List ℕ) : DumpRe
 row_broken : (IsFault : ℕ → List Row → List ℕ → Type 0) (IsOther : ℕ → List Row → List ℕ → Type 0) (names : List (List ℕ)) (signals : ℕ) (text : List ℕ) (line : ℕ)
     → ((cycles : ℕ) (rows : List Row) (bad : List ℕ) → IsFault cycles rows bad → IsOther cycles rows bad) → IsRowFault IsFault names signals text line → IsRowFault IsOther names signals text line
 row_broken IsFault IsOther names signals text line f h =
-    record { cycles = h.cycles; before = h.before; bad = h.bad; after = h.after; front = h.front; rows = h.rows; read = h.read; fault = f h.cycles h.rows h.bad h.fault }
+    let first = h.first in
+    record {
+      cycles = h.cycles;
+      lines = h.lines;
+      front = h.front;
+      first = record { before = first.before; bad = first.bad; after = first.after; whole = first.whole; said = first.said; say = first.say; fault = f h.cycles first.said first.bad first.fault };
+    }
 
 broken : (names : List (List ℕ)) (signals : ℕ) (text : List ℕ) (e : DumpRefusal) → IsRefusal names signals text e → (e ≢ NoMemory) → Broken names signals text e
 broken names signals text (Head line) h some = at_head line h
@@ -210,19 +203,21 @@ cells_not signals text line product cycles left h k =
 
 row_row : (names : List (List ℕ)) (signals : ℕ) (text : List ℕ) (a b : DumpRefusal) (m n : ℕ) → HasOwnNames names → RowBroken names signals text a m → RowBroken names signals text b n → (a ≢ NoMemory) → (b ≢ NoMemory) → a ≡ b
 row_row names signals text a b m n own h k some other =
-    let front = same_front text h.front.number k.front.number h.cycles k.cycles (h.before ++ (m, h.bad) ∷ h.after) (k.before ++ (n, k.bad) ∷ k.after) h.front.front k.front.front in
-    let read_k : StateRows names h.cycles k.before k.rows = subst (λ t. StateRows names t k.before k.rows) (sym front.1) k.read in
-    let fault_k : IsRowRefusal names h.cycles k.rows n k.bad b = subst (λ t. IsRowRefusal names t k.rows n k.bad b) (sym front.1) k.fault in
-    elim (part h.before k.before h.after k.after (m, h.bad) (n, k.bad) front.2) [
+    let x = h.first in
+    let y = k.first in
+    let front = same_front text h.front.number k.front.number h.cycles k.cycles h.lines k.lines h.front.front k.front.front in
+    let read_y : StateRows names h.cycles y.before y.said = subst (λ t. StateRows names t y.before y.said) (sym front.1) y.say in
+    let fault_y : IsRowRefusal names h.cycles y.said n y.bad b = subst (λ t. IsRowRefusal names t y.said n y.bad b) (sym front.1) y.fault in
+    elim (part x.before y.before x.after y.after (m, x.bad) (n, y.bad) (sym x.whole ∙ front.2 ∙ y.whole)) [
       | inl same ↦
-          let bad : h.bad ≡ k.bad = ap (λ (l : Line). l.1) same.1 in
+          let bad : x.bad ≡ y.bad = ap (λ (l : Line). l.1) same.1 in
           let at : m ≡ n = ap (λ (l : Line). l.0) same.1 in
-          let rows : h.rows ≡ k.rows = same_rows names h.cycles k.before h.rows k.rows own (subst (λ (ls : List Line). State names h.cycles ls h.rows) same.0 h.read.each) read_k.each in
-          let fault_h : IsRowRefusal names h.cycles k.rows n k.bad a =
-          subst (λ (rs : List Row). IsRowRefusal names h.cycles rs n k.bad a) rows (subst (λ (t : List ℕ). IsRowRefusal names h.cycles h.rows n t a) bad (subst (λ l. IsRowRefusal names h.cycles h.rows l h.bad a) at h.fault)) in
-          row_once names h.cycles k.rows n k.bad a b own fault_h fault_k some other
-      | inr (inl on) ↦ absurd (not_read names h.cycles k.before h.before on.0 (m, h.bad) h.rows k.rows a m own h.read read_k on.1 h.fault some)
-      | inr (inr on) ↦ absurd (not_read names h.cycles h.before k.before on.0 (n, k.bad) k.rows h.rows b n own read_k h.read on.1 fault_k other)
+          let rows : x.said ≡ y.said = same_rows names h.cycles y.before x.said y.said own (subst (λ (ls : List Line). State names h.cycles ls x.said) same.0 x.say.each) read_y.each in
+          let fault_x : IsRowRefusal names h.cycles y.said n y.bad a =
+          subst (λ (rs : List Row). IsRowRefusal names h.cycles rs n y.bad a) rows (subst (λ (t : List ℕ). IsRowRefusal names h.cycles x.said n t a) bad (subst (λ l. IsRowRefusal names h.cycles x.said l x.bad a) at x.fault)) in
+          row_once names h.cycles y.said n y.bad a b own fault_x fault_y some other
+      | inr (inl on) ↦ absurd (not_read names h.cycles y.before x.before on.0 (m, x.bad) x.said y.said a m own x.say read_y on.1 x.fault some)
+      | inr (inr on) ↦ absurd (not_read names h.cycles x.before y.before on.0 (n, y.bad) y.said x.said b n own read_y x.say on.1 fault_y other)
     ]
 
 -- ---- the laws
@@ -231,20 +226,20 @@ once : (names : List (List ℕ)) (signals : ℕ) (text : List ℕ) (a b : DumpRe
 once names signals text a b own (at_head m h) (at_head n k) some other = ap Head (fails_once IsHead (past_end text) (numbered text) m n h k)
 once names signals text a b own (at_head m h) (at_cycles n k) some other = absurd (head_not_cycles text m n h k)
 once names signals text a b own (at_head m h) (at_cells n p k) some other = absurd (head_not text m n k.cycles k.lines h k.front)
-once names signals text a b own (at_head m h) (at_row e n k) some other = absurd (head_not text m k.front.number k.cycles (k.before ++ (n, k.bad) ∷ k.after) h k.front.front)
+once names signals text a b own (at_head m h) (at_row e n k) some other = absurd (head_not text m k.front.number k.cycles k.lines h k.front.front)
 once names signals text a b own (at_cycles m h) (at_head n k) some other = absurd (head_not_cycles text n m k h)
 once names signals text a b own (at_cycles m h) (at_cycles n k) some other = ap Cycles (cycles_once text m n h k)
 once names signals text a b own (at_cycles m h) (at_cells n p k) some other = absurd (cycles_not text m n k.cycles k.lines h k.front)
-once names signals text a b own (at_cycles m h) (at_row e n k) some other = absurd (cycles_not text m k.front.number k.cycles (k.before ++ (n, k.bad) ∷ k.after) h k.front.front)
+once names signals text a b own (at_cycles m h) (at_row e n k) some other = absurd (cycles_not text m k.front.number k.cycles k.lines h k.front.front)
 once names signals text a b own (at_cells m p h) (at_head n k) some other = absurd (head_not text n m h.cycles h.lines k h.front)
 once names signals text a b own (at_cells m p h) (at_cycles n k) some other = absurd (cycles_not text n m h.cycles h.lines k h.front)
 once names signals text a b own (at_cells m p h) (at_cells n q k) some other =
     let same = same_front text m n h.cycles k.cycles h.lines k.lines h.front k.front in
     ap (λ l. TooManyCells l p) same.0 ∙ ap (TooManyCells n) (h.is_product ∙ ap (block_count signals) same.1 ∙ sym k.is_product)
-once names signals text a b own (at_cells m p h) (at_row e n k) some other = absurd (cells_not signals text m p k.cycles (k.before ++ (n, k.bad) ∷ k.after) h k.front)
-once names signals text a b own (at_row e m h) (at_head n k) some other = absurd (head_not text n h.front.number h.cycles (h.before ++ (m, h.bad) ∷ h.after) k h.front.front)
-once names signals text a b own (at_row e m h) (at_cycles n k) some other = absurd (cycles_not text n h.front.number h.cycles (h.before ++ (m, h.bad) ∷ h.after) k h.front.front)
-once names signals text a b own (at_row e m h) (at_cells n p k) some other = absurd (cells_not signals text n p h.cycles (h.before ++ (m, h.bad) ∷ h.after) k h.front)
+once names signals text a b own (at_cells m p h) (at_row e n k) some other = absurd (cells_not signals text m p k.cycles k.lines h k.front)
+once names signals text a b own (at_row e m h) (at_head n k) some other = absurd (head_not text n h.front.number h.cycles h.lines k h.front.front)
+once names signals text a b own (at_row e m h) (at_cycles n k) some other = absurd (cycles_not text n h.front.number h.cycles h.lines k h.front.front)
+once names signals text a b own (at_row e m h) (at_cells n p k) some other = absurd (cells_not signals text n p h.cycles h.lines k h.front)
 once names signals text a b own (at_row e m h) (at_row f n k) some other = row_row names signals text e f m n own h k some other
 
 pub one_refusal : IsRefusedOnce
@@ -256,8 +251,9 @@ read_not names signals text r e own h (at_head n k) some = head_not text n h.fro
 read_not names signals text r e own h (at_cycles n k) some = cycles_not text n h.front.number r.cycles h.lines k h.front.front
 read_not names signals text r e own h (at_cells n p k) some = cells_not signals text n p r.cycles h.lines k h.front
 read_not names signals text r e own h (at_row f n k) some =
-    let front = same_front text h.front.number k.front.number r.cycles k.cycles h.lines (k.before ++ (n, k.bad) ∷ k.after) h.front.front k.front.front in
-    not_read names k.cycles h.lines k.before k.after (n, k.bad) k.rows r.rows f n own k.read (subst (λ t. StateRows names t h.lines r.rows) front.1 h.rows) front.2 k.fault some
+    let front = same_front text h.front.number k.front.number r.cycles k.cycles h.lines k.lines h.front.front k.front.front in
+    let y = k.first in
+    not_read names k.cycles h.lines y.before y.after (n, y.bad) y.said r.rows f n own y.say (subst (λ t. StateRows names t h.lines r.rows) front.1 h.rows) (front.2 ∙ y.whole) y.fault some
 
 pub not_both : DumpsAreNotRefused
 not_both c text r NoMemory circuit h k = refl

@@ -11,7 +11,7 @@ use Rattle.std.proofs.lemmas.List.Quantifiers.{all_pairs_push}
 use Rattle.sr_model.specs.declared.cells.Sig.{Sig}
 use Rattle.sr_model.specs.Dump.{Row}
 use Rattle.dump_reader.specs.declared.dump.Tri.{Tri}
-use Rattle.dump_reader.specs.Recording.{Recording, IsRecording, bit_of, row_of, recorded}
+use Rattle.dump_reader.specs.Recording.{Recording, IsRecording, tri_bit, row_of, recorded}
 use Rattle.dump_reader.specs.Kept.{rows_of}
 use Rattle.dump_reader.specs.Kept.{IsKept, is_marked}
 
@@ -70,7 +70,7 @@ rows_full cycles [] cells e = All-nil (λ (row : Row). length row.bits ≡ cycle
 rows_full cycles (sig ∷ sigs) cells e =
     let full = rest_full cycles (length sigs) cells e in
     All-cons (λ (row : Row). length row.bits ≡ cycles) (row_of sig (take cycles cells)) (rows_of cycles sigs (drop cycles cells))
-    (length-map (take cycles cells) bit_of ∙ length-take-le cycles cells full.0) (rows_full cycles sigs (drop cycles cells) full.1)
+    (length-map (take cycles cells) tri_bit ∙ length-take-le cycles cells full.0) (rows_full cycles sigs (drop cycles cells) full.1)
 
 pub kept_recording : (cycles : ℕ) (sigs : List Sig) (cells : List Tri) (marks : List Bool) → IsKept cycles sigs cells marks → IsRecording (record { cycles = cycles; rows = rows_of cycles sigs cells })
 kept_recording cycles sigs cells marks kept = record {

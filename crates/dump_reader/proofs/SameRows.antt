@@ -8,6 +8,7 @@ use Rattle.std.proofs.lemmas.List.Elements.{All-nil, All-cons}
 use Rattle.std.proofs.lemmas.Option.{same_Some, slice_get_within}
 use Rattle.sr_model.specs.declared.cells.Sig.{Sig}
 use Rattle.sr_model.specs.Dump.{Row}
+use Rattle.sr_text.proofs.lemmas.FirstFaults.{Line, same_cons}
 use Rattle.dump_reader.specs.Grammar.{IsCyclesLine, HasFront, NamesSignal, StatesRow, bit_read}
 use Rattle.dump_reader.specs.Laws.{HasOneReading, SpellsRecording}
 use Rattle.dump_reader.proofs.Tokens.{same_tokens}
@@ -15,12 +16,6 @@ use Rattle.dump_reader.proofs.Tokens.{same_tokens}
 -- no two signals have one name
 abbrev pub HasOwnNames : List (List ℕ) → Type 0
 HasOwnNames names = (i j : ℕ) (name : List ℕ) → slice_get names i ≡ Some name → slice_get names j ≡ Some name → i ≡ j
-
-abbrev pub Line : Type 0
-Line = ℕ × List ℕ
-
-pub same_cons : {X : Type 0} (x y : X) (xs ys : List X) → x ∷ xs ≡ y ∷ ys → (x ≡ y) × (xs ≡ ys)
-same_cons x y xs ys e = (ap (λ zs. get_or zs 0 x) e, ap (λ zs. drop 1 zs) e)
 
 -- ---- the front
 

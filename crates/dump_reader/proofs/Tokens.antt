@@ -8,20 +8,8 @@ use Rattle.std.proofs.lemmas.List.Elements.{All-head, All-tail}
 use Rattle.std.proofs.lemmas.List.Sums.{prefix_len-le-length, prefix_len_passes, prefix_len_stops, fails_before_first, passes_at_first}
 use Rattle.std.proofs.lemmas.Option.{none-some, same_Some, some_pair_parts, cond_some}
 use Rattle.sr_text.specs.Text.{is_blank, token_at}
-use Rattle.dump_reader.specs.Lines.{HasTwoTokens, texts_of}
-
--- ---- runs of bytes
-
-pub run : (p : ℕ → Bool) (a b : List ℕ) → All (λ x. p x ≡ true) a → prefix_len p (a ++ b) ≡ length a + prefix_len p b
-run p [] b all = sym (zero-add (prefix_len p b))
-run p (x ∷ a) b all =
-    let rest = run p a b (All-tail (λ x. p x ≡ true) x a all) in
-    let front = cond-true (p x) (1 + prefix_len p (a ++ b)) 0 (All-head (λ x. p x ≡ true) x a all) in
-    omega (arith, rest, front)
-
-pub stops : (p : ℕ → Bool) (a b : List ℕ) → a ≢ [] → All (λ x. p x ≡ false) a → prefix_len p (a ++ b) ≡ 0
-stops p [] b some all = absurd (some refl)
-stops p (x ∷ a) b some all = cond-false (p x) (1 + prefix_len p (a ++ b)) 0 (All-head (λ x. p x ≡ false) x a all)
+use Rattle.sr_text.proofs.lemmas.PrintedLines.{run, stops}
+use Rattle.dump_reader.specs.Tokens.{HasTwoTokens, texts_of}
 
 no_blanks : (a : List ℕ) → All (λ x. is_blank x ≡ false) a → All (λ x. not (is_blank x) ≡ true) a
 no_blanks a all k d lt = not_from_false (is_blank (get_or a k d)) (all k d lt)

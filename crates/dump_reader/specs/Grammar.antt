@@ -5,7 +5,8 @@ use Rattle.std.specs.Fmt.{decimal}
 use Rattle.sr_model.specs.declared.cells.Sig.{Sig}
 use Rattle.sr_model.specs.Dump.{Row}
 use Rattle.dump_reader.specs.Recording.{Recording, IsCount, recorded}
-use Rattle.dump_reader.specs.Lines.{numbered, past_end, HasTwoTokens}
+use Rattle.sr_text.specs.Lines.{FirstFault, numbered, past_end}
+use Rattle.dump_reader.specs.Tokens.{HasTwoTokens}
 
 -- the first line: its format and version
 abbrev pub IsHead : List ℕ → Type 0
@@ -113,10 +114,6 @@ IsBitFault names cycles rows text = (characters : List ℕ) × NamesNewSignal na
 -- rows follow the front, and the line behind them is bad in this way, which may depend on the cycles and on those rows
 pub record IsRowFault (IsFault : ℕ → List Row → List ℕ → Type 0) (names : List (List ℕ)) (signals : ℕ) (text : List ℕ) (number : ℕ) : Type 0 where
   pub cycles : ℕ
-  pub before : List (ℕ × List ℕ)
-  pub bad : List ℕ
-  pub after : List (ℕ × List ℕ)
-  pub front : HasFittingFront signals text cycles (before ++ (number, bad) ∷ after)
-  pub rows : List Row
-  pub read : StateRows names cycles before rows
-  pub fault : IsFault cycles rows bad
+  pub lines : List (ℕ × List ℕ)
+  pub front : HasFittingFront signals text cycles lines
+  pub first : FirstFault (StateRows names cycles) (IsFault cycles) lines number

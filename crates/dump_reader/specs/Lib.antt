@@ -1,8 +1,8 @@
 pub mod Grammar
 pub mod Kept
 pub mod Laws
-pub mod Lines
 pub mod Print
 pub mod Reading
 pub mod Recording
 pub mod Refusal
+pub mod Tokens

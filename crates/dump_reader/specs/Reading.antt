@@ -1,18 +1,8 @@
 -- What is read of the lines that are left.
-use Rattle.std.specs.Prelude.{ℕ, ◌≡◌, ◌+◌, ◌≤◌, ◌<◌, List, ◌∷◌, length}
-use Rattle.dump_reader.specs.declared.lines.TextLines.{TextLines}
+use Rattle.std.specs.Prelude.{ℕ, ◌≡◌, ◌≤◌, ◌<◌, List, ◌∷◌}
 use Rattle.dump_reader.specs.declared.refusal.DumpRefusal.{DumpRefusal}
 use Rattle.dump_reader.specs.declared.refusal.DumpRefusal.TheVariants.{Head, Cycles, TooManyCells}
-use Rattle.dump_reader.specs.Lines.{numbered_from}
 use Rattle.dump_reader.specs.Grammar.{IsHead, IsCyclesLine, FailsFirst, block_count}
-
--- the lines that are left
-abbrev pub rest_of : TextLines → List (ℕ × List ℕ)
-rest_of lines = numbered_from (lines.passed + 1) lines.lines
-
--- the number of a line behind the last
-abbrev pub past : TextLines → ℕ
-past lines = lines.passed + length lines.lines + 1
 
 -- the first of the lines is a head, and the others are left
 abbrev pub ReadsHead : List (ℕ × List ℕ) → List (ℕ × List ℕ) → Type 0

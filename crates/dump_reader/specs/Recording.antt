@@ -12,14 +12,14 @@ pub record Recording : Type 0 where
   pub rows : List Row
 
 -- the bit of a cell, or none for x
-abbrev pub bit_of : Tri → Option Bool
-bit_of Zero = Some false
-bit_of One = Some true
-bit_of X = None
+abbrev pub tri_bit : Tri → Option Bool
+tri_bit Zero = Some false
+tri_bit One = Some true
+tri_bit X = None
 
 -- the row of a signal with these cells
 abbrev pub row_of : Sig → List Tri → Row
-row_of sig cells = record { sig = sig; bits = map bit_of cells }
+row_of sig cells = record { sig = sig; bits = map tri_bit cells }
 
 -- the signals that have a row, in the order of the rows
 abbrev pub recorded : List Row → List Sig

@@ -42,7 +42,7 @@ impl Model for Dump {
 }
 
 impl Dump {
-    ghost use Rattle.dump_reader.specs.Recording.{IsCount, IsRecording, recorded, bit_of, row_of};
+    ghost use Rattle.dump_reader.specs.Recording.{IsCount, IsRecording, recorded, tri_bit, row_of};
 
     /// A dump of so many cycles and no row. It takes no memory.
     pub fn new(alloc: Global, cycles: u32) -> Dump
@@ -114,7 +114,7 @@ impl Dump {
     /// The cells of row i, counted from 0: one for each cycle.
     pub fn row_bits(&self, i: usize) -> &[Tri]
         requires { i < length self.now.rows }
-        ensures cells { option_map (λ row. row.bits) (slice_get self.now.rows i) ≡ Some (map bit_of result.now) }
+        ensures cells { option_map (λ row. row.bits) (slice_get self.now.rows i) ≡ Some (map tri_bit result.now) }
         ensures len { length result.now ≡ self.now.cycles }
         ensures few { length result.now ≤ 8192 }
     {

@@ -2,7 +2,7 @@
 ghost use Rattle.std.specs.Prelude.{◌≡◌, ◌<◌, ◌++◌, ◌∷◌, [], List, ℕ, length, map, OnOk, IfOk};
 ghost use Rattle.std.specs.List.{All};
 ghost use Rattle.std.specs.Fmt.{decimal};
-ghost use Rattle.dump_reader.specs.Recording.{bit_of};
+ghost use Rattle.dump_reader.specs.Recording.{tri_bit};
 ghost use Rattle.dump_reader.specs.Print.{bit_character, printed};
 
 use crate::dump::{Dump, Tri};
@@ -40,7 +40,7 @@ fn push_number(text: &mut Vec<u8>, number: u32) -> Result<(), NoMemory>
 
 /// A row's name, a space, its characters and a line feed.
 fn push_row(text: &mut Vec<u8>, name: &[u8], cells: &[Tri]) -> Result<(), NoMemory>
-    ensures { OnOk result (text.new.items ≡ text.old.items ++ (name.now ++ 32 ∷ [] ++ map (λ cell. bit_character (bit_of cell)) cells.now ++ 10 ∷ [])) }
+    ensures { OnOk result (text.new.items ≡ text.old.items ++ (name.now ++ 32 ∷ [] ++ map (λ cell. bit_character (tri_bit cell)) cells.now ++ 10 ∷ [])) }
 {
     push_text(text, name)?;
     push_text(text, b" ")?;
@@ -69,7 +69,7 @@ fn push_byte(text: &mut Vec<u8>, byte: u8) -> Result<(), NoMemory>
 }
 
 fn character_of(cell: Tri) -> u8
-    ensures { result ≡ bit_character (bit_of cell) }
+    ensures { result ≡ bit_character (tri_bit cell) }
 {
     match cell {
         Tri::Zero => b'0',

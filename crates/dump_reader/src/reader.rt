@@ -1,17 +1,18 @@
 //! Reads a dump.
 ghost use Rattle.std.specs.Prelude.{◌≡◌, ◌↔◌, ◌+◌, ◌<◌, ℕ, IsTrue, List, length, Some, OnOk, IfOk, IfErr, All};
 ghost use Rattle.dump_reader.specs.Recording.{IsCount};
-ghost use Rattle.dump_reader.specs.Lines.{HasTwoTokens};
+ghost use Rattle.sr_text.specs.Lines.{past, rest_of};
+ghost use Rattle.dump_reader.specs.Tokens.{HasTwoTokens};
 ghost use Rattle.dump_reader.specs.Grammar.{IsHead, IsCyclesLine, Spells, block_count};
 ghost use Rattle.dump_reader.specs.Refusal.{IsRefusal};
-ghost use Rattle.dump_reader.specs.Reading.{rest_of, past, ReadsHead, ReadsCycles, IsHeadRefusal, IsCyclesRefusal};
+ghost use Rattle.dump_reader.specs.Reading.{ReadsHead, ReadsCycles, IsHeadRefusal, IsCyclesRefusal};
 
 use crate::dump::Dump;
-use crate::lines::{TextLines, two_tokens};
+use crate::lines::two_tokens;
 use crate::refusal::DumpRefusal;
 use crate::row::read_row;
 use netlist::Netlist;
-use sr_text::read_u64;
+use sr_text::{TextLines, read_u64};
 use std::alloc::Global;
 
 const MAX_CYCLES: u64 = 8192;

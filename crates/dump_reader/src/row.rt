@@ -1,7 +1,7 @@
 //! Reads one row of a dump.
 ghost use Rattle.std.specs.Prelude.{◌≡◌, ℕ, IsTrue, false, length, map, option_map, Some, IfOk, IfErr, IsSome, Contains};
 ghost use Rattle.std.specs.List.{All};
-ghost use Rattle.dump_reader.specs.Recording.{recorded, row_of, bit_of};
+ghost use Rattle.dump_reader.specs.Recording.{recorded, row_of, tri_bit};
 ghost use Rattle.dump_reader.specs.Grammar.{StatesRow, bit_read};
 ghost use Rattle.dump_reader.specs.Refusal.{IsRowRefusal};
 
@@ -44,7 +44,7 @@ pub(crate) fn read_row(
 
 /// Puts the cells of these characters in place of those given. Whether each character is that of a cell.
 fn read_cells(characters: &[u8], cells: &mut Vec<Tri>) -> Result<bool, NoMemory>
-    ensures cells { IfOk result (λ whole. IsTrue whole → map bit_read characters.now ≡ map (λ cell. Some (bit_of cell)) cells.new.items) }
+    ensures cells { IfOk result (λ whole. IsTrue whole → map bit_read characters.now ≡ map (λ cell. Some (tri_bit cell)) cells.new.items) }
     ensures none { IfOk result (λ whole. whole ≡ false → ¬ All (λ c. IsSome (bit_read c)) characters.now) }
 {
     cells.clear();
@@ -61,7 +61,7 @@ fn read_cells(characters: &[u8], cells: &mut Vec<Tri>) -> Result<bool, NoMemory>
 }
 
 fn read_cell(character: u8) -> Option<Tri>
-    ensures { option_map bit_of result ≡ bit_read character }
+    ensures { option_map tri_bit result ≡ bit_read character }
 {
     match character {
         b'0' => Some(Tri::Zero),

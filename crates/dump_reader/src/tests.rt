@@ -1,9 +1,9 @@
 //! Dumps and refusals, with answers worked out by hand.
-use crate::lines::TextLines;
 use crate::reader::read_cycles;
 use crate::{Dump, DumpRefusal, Tri, print_dump, read_dump};
 use netlist::{Netlist, are_statements, build};
 use sr_model::{Bytes, Numbered, Sequence, Sig, Statement, Statements};
+use sr_text::TextLines;
 use std::alloc::Global;
 use std::process::Abort;
 use std::test::*;

@@ -9,10 +9,10 @@ use Rattle.sr_model.specs.declared.cells.Sig.{Sig}
 use Rattle.sr_model.specs.declared.cells.Lit.{Lit}
 use Rattle.sr_model.specs.Dump.{Row, dump_has, is_bit}
 use Rattle.dump_reader.specs.declared.dump.Tri.{Tri}
-use Rattle.dump_reader.specs.Recording.{bit_of}
+use Rattle.dump_reader.specs.Recording.{tri_bit}
 use Rattle.unroll.specs.declared.words.PinWord.{PinWord}
 use Rattle.unroll.specs.Bits.{is_set, word_for}
-use Rattle.unroll.specs.Problem.{Unrolling, signals_in, chunks_in, block_at, block_of, chunk_at, bit_of as bit_in, HasNoLaterBit}
+use Rattle.unroll.specs.Problem.{Unrolling, signals_in, chunks_in, block_at, block_of, chunk_at, bit_of, HasNoLaterBit}
 use Rattle.unroll.proofs.lemmas.Words.{is_set_or}
 use Rattle.unroll.proofs.lemmas.Blocks.{block-chunk, block-within, cycle-chunk}
 use Rattle.known_planes.specs.Planes.{PlaneSet, words_at, with_words, has, joined, IsOf}
@@ -45,7 +45,7 @@ joined-none u planes s chunk old words of h k is none bit i few set =
 -- the planes have the old literals and those of a row's first chunks
 abbrev pub HasChunks : Unrolling → PlaneSet → Sig → List Tri → ℕ → PlaneSet → Type 0
 HasChunks u old s cells chunk planes =
-    (l : Lit) → has u planes l ≡ (has u old l || (eqb s.0 l.cell.sig.0 && ltb (l.cell.cycle / 64) chunk && is_bit (slice_get (map bit_of cells) l.cell.cycle) l.bit))
+    (l : Lit) → has u planes l ≡ (has u old l || (eqb s.0 l.cell.sig.0 && ltb (l.cell.cycle / 64) chunk && is_bit (slice_get (map tri_bit cells) l.cell.cycle) l.bit))
 
 distribute : (e o w : Bool) → (e && (o || w)) ≡ ((e && o) || (e && w))
 distribute true o w = refl
@@ -62,13 +62,13 @@ or-none false = refl
 -- a chunk more
 module _ (u : Unrolling) (old planes : PlaneSet) (s : Sig) (chunk : ℕ) (cells : List Tri) (start end : ℕ) (words : PinWord)
     (of : IsOf u planes) (h : s.0 < signals_in u) (k : chunk < chunks_in u) (start_is : start ≡ 64 * chunk) (end_is : end ≡ min (length cells) (start + 64)) (size : length cells ≡ u.cycles)
-    (says : (bit : Bool) (i : ℕ) → is_set (word_for bit words) i ≡ is_bit (slice_get (map bit_of (slice_range cells start end)) i) bit)
+    (says : (bit : Bool) (i : ℕ) → is_set (word_for bit words) i ≡ is_bit (slice_get (map tri_bit (slice_range cells start end)) i) bit)
     (before : HasChunks u old s cells chunk planes) where
   abbrev new : PlaneSet
   new = with_words planes (block_at u s chunk) (joined (words_at planes (block_at u s chunk)) words)
 
   abbrev cell-has : Lit → Bool
-  cell-has l = is_bit (slice_get (map bit_of cells) l.cell.cycle) l.bit
+  cell-has l = is_bit (slice_get (map tri_bit cells) l.cell.cycle) l.bit
 
   abbrev early : Lit → Bool
   early l = ltb l.cell.cycle u.cycles
@@ -76,19 +76,19 @@ module _ (u : Unrolling) (old planes : PlaneSet) (s : Sig) (chunk : ℕ) (cells 
   none-late : (l : Lit) → early l ≡ false → cell-has l ≡ false
   none-late l late = no-bit-past cells l.cell.cycle l.bit (omega (arith, size, ltb-false l.cell.cycle u.cycles late))
 
-  in-chunk : (l : Lit) → l.cell.cycle / 64 ≡ chunk → is_set (word_for l.bit words) (bit_in l.cell) ≡ cell-has l
+  in-chunk : (l : Lit) → l.cell.cycle / 64 ≡ chunk → is_set (word_for l.bit words) (bit_of l.cell) ≡ cell-has l
   in-chunk l same =
-      says l.bit (bit_in l.cell) ∙ ap (λ x. is_bit x l.bit) (chunk-cell cells start end (bit_in l.cell) end_is (omega arith))
-      ∙ ap (λ n. is_bit (slice_get (map bit_of cells) n) l.bit) (omega (arith, start_is, same))
+      says l.bit (bit_of l.cell) ∙ ap (λ x. is_bit x l.bit) (chunk-cell cells start end (bit_of l.cell) end_is (omega arith))
+      ∙ ap (λ n. is_bit (slice_get (map tri_bit cells) n) l.bit) (omega (arith, start_is, same))
 
   -- a literal of the row in the chunk
   here : (l : Lit) → s.0 ≡ l.cell.sig.0 → l.cell.cycle / 64 ≡ chunk → has u new l ≡ (has u planes l || cell-has l)
   here l sig same =
       let one : block_at u s chunk ≡ block_of u l.cell = ap (λ n. record { 0 = n * chunks_in u + chunk }) sig ∙ ap (λ n. record { 0 = l.cell.sig.0 * chunks_in u + n }) (sym same) in
       has-there u planes s chunk (joined (words_at planes (block_at u s chunk)) words) of h k l sig (sym same)
-      ∙ ap (λ t. early l && t) (joined-bit (words_at planes (block_at u s chunk)) words l.bit (bit_in l.cell))
-      ∙ distribute (early l) (is_set (word_for l.bit (words_at planes (block_at u s chunk))) (bit_in l.cell)) (is_set (word_for l.bit words) (bit_in l.cell))
-      ∙ ap (λ b. (early l && is_set (word_for l.bit (words_at planes b)) (bit_in l.cell)) || (early l && is_set (word_for l.bit words) (bit_in l.cell))) one
+      ∙ ap (λ t. early l && t) (joined-bit (words_at planes (block_at u s chunk)) words l.bit (bit_of l.cell))
+      ∙ distribute (early l) (is_set (word_for l.bit (words_at planes (block_at u s chunk))) (bit_of l.cell)) (is_set (word_for l.bit words) (bit_of l.cell))
+      ∙ ap (λ b. (early l && is_set (word_for l.bit (words_at planes b)) (bit_of l.cell)) || (early l && is_set (word_for l.bit words) (bit_of l.cell))) one
       ∙ ap (λ t. has u planes l || (early l && t)) (in-chunk l same)
       ∙ ap (λ t. has u planes l || t) (and_early (early l) (cell-has l) (none-late l))
 
@@ -125,7 +125,7 @@ module _ (u : Unrolling) (old planes : PlaneSet) (s : Sig) (chunk : ℕ) (cells 
 -- no chunk
 pub row-none : (u : Unrolling) (old : PlaneSet) (s : Sig) (cells : List Tri) → HasChunks u old s cells 0 old
 row-none u old s cells l =
-    sym (or-none (has u old l)) ∙ sym (ap (λ t. has u old l || (t && is_bit (slice_get (map bit_of cells) l.cell.cycle) l.bit)) (and-none (eqb s.0 l.cell.sig.0) ∙ refl))
+    sym (or-none (has u old l)) ∙ sym (ap (λ t. has u old l || (t && is_bit (slice_get (map tri_bit cells) l.cell.cycle) l.bit)) (and-none (eqb s.0 l.cell.sig.0) ∙ refl))
   where
     and-none : (b : Bool) → (b && ltb (l.cell.cycle / 64) 0) ≡ false
     and-none true = le-ltb (l.cell.cycle / 64) 0 (omega arith)
@@ -133,15 +133,15 @@ row-none u old s cells l =
 
 -- all chunks
 pub row-all : (u : Unrolling) (old planes : PlaneSet) (s : Sig) (chunk : ℕ) (cells : List Tri) → chunks_in u ≤ chunk → length cells ≡ u.cycles → HasChunks u old s cells chunk planes
-    → (l : Lit) → has u planes l ≡ (has u old l || (eqb s.0 l.cell.sig.0 && is_bit (slice_get (map bit_of cells) l.cell.cycle) l.bit))
+    → (l : Lit) → has u planes l ≡ (has u old l || (eqb s.0 l.cell.sig.0 && is_bit (slice_get (map tri_bit cells) l.cell.cycle) l.bit))
 row-all u old planes s chunk cells all size before l =
     before l ∙ elim (cases_lt l.cell.cycle u.cycles) [
       | inl h ↦
           let within : l.cell.cycle / 64 < chunks_in u = cycle-chunk u l.cell.cycle h in
-          ap (λ t. has u old l || (eqb s.0 l.cell.sig.0 && t && is_bit (slice_get (map bit_of cells) l.cell.cycle) l.bit)) (lt-ltb (l.cell.cycle / 64) chunk (omega (arith, within, all)))
-          ∙ ap (λ t. has u old l || (t && is_bit (slice_get (map bit_of cells) l.cell.cycle) l.bit)) (and-true (eqb s.0 l.cell.sig.0))
+          ap (λ t. has u old l || (eqb s.0 l.cell.sig.0 && t && is_bit (slice_get (map tri_bit cells) l.cell.cycle) l.bit)) (lt-ltb (l.cell.cycle / 64) chunk (omega (arith, within, all)))
+          ∙ ap (λ t. has u old l || (t && is_bit (slice_get (map tri_bit cells) l.cell.cycle) l.bit)) (and-true (eqb s.0 l.cell.sig.0))
       | inr h ↦
-          let none : is_bit (slice_get (map bit_of cells) l.cell.cycle) l.bit ≡ false = no-bit-past cells l.cell.cycle l.bit (omega (arith, size, h)) in
+          let none : is_bit (slice_get (map tri_bit cells) l.cell.cycle) l.bit ≡ false = no-bit-past cells l.cell.cycle l.bit (omega (arith, size, h)) in
           ap (λ t. has u old l || t) (and_right (eqb s.0 l.cell.sig.0 && ltb (l.cell.cycle / 64) chunk) _ none ∙ sym (and_right (eqb s.0 l.cell.sig.0) _ none))
     ]
   where
@@ -154,16 +154,16 @@ some-same d a b e = ap (λ o. unwrap_or o d) e
 
 -- a row more
 pub dump-more : (u : Unrolling) (rows : List Row) (row : ℕ) (planes after : PlaneSet) (s : Sig) (cells : List Tri) → row < length rows
-    → option_map (λ (r : Row). r.sig) (slice_get rows row) ≡ Some s → option_map (λ (r : Row). r.bits) (slice_get rows row) ≡ Some (map bit_of cells)
+    → option_map (λ (r : Row). r.sig) (slice_get rows row) ≡ Some s → option_map (λ (r : Row). r.bits) (slice_get rows row) ≡ Some (map tri_bit cells)
     → ((l : Lit) → has u planes l ≡ dump_has (take row rows) l)
-    → ((l : Lit) → has u after l ≡ (has u planes l || (eqb s.0 l.cell.sig.0 && is_bit (slice_get (map bit_of cells) l.cell.cycle) l.bit)))
+    → ((l : Lit) → has u after l ≡ (has u planes l || (eqb s.0 l.cell.sig.0 && is_bit (slice_get (map tri_bit cells) l.cell.cycle) l.bit)))
     → (l : Lit) → has u after l ≡ dump_has (take (row + 1) rows) l
 dump-more u rows row planes after s cells within sig bits before joins l =
-    let d : Row = record { sig = s; bits = map bit_of cells } in
+    let d : Row = record { sig = s; bits = map tri_bit cells } in
     let found : slice_get rows row ≡ Some (get_or rows row d) = slice_get-get_or rows row d within in
     let sig_is : (get_or rows row d).sig ≡ s = some-same s (get_or rows row d).sig s (sym (ap (option_map (λ (r : Row). r.sig)) found) ∙ sig) in
-    let bits_is : (get_or rows row d).bits ≡ map bit_of cells = some-same (map bit_of cells) (get_or rows row d).bits (map bit_of cells) (sym (ap (option_map (λ (r : Row). r.bits)) found) ∙ bits) in
-    joins l ∙ ap (λ t. t || (eqb s.0 l.cell.sig.0 && is_bit (slice_get (map bit_of cells) l.cell.cycle) l.bit)) (before l)
-    ∙ ap (λ (x : Sig). dump_has (take row rows) l || (eqb x.0 l.cell.sig.0 && is_bit (slice_get (map bit_of cells) l.cell.cycle) l.bit)) (sym sig_is)
+    let bits_is : (get_or rows row d).bits ≡ map tri_bit cells = some-same (map tri_bit cells) (get_or rows row d).bits (map tri_bit cells) (sym (ap (option_map (λ (r : Row). r.bits)) found) ∙ bits) in
+    joins l ∙ ap (λ t. t || (eqb s.0 l.cell.sig.0 && is_bit (slice_get (map tri_bit cells) l.cell.cycle) l.bit)) (before l)
+    ∙ ap (λ (x : Sig). dump_has (take row rows) l || (eqb x.0 l.cell.sig.0 && is_bit (slice_get (map tri_bit cells) l.cell.cycle) l.bit)) (sym sig_is)
     ∙ ap (λ bs. dump_has (take row rows) l || (eqb (get_or rows row d).sig.0 l.cell.sig.0 && is_bit (slice_get bs l.cell.cycle) l.bit)) (sym bits_is)
     ∙ sym (list_any_more (λ (r : Row). eqb r.sig.0 l.cell.sig.0 && is_bit (slice_get r.bits l.cell.cycle) l.bit) rows row d within)

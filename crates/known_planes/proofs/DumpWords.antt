@@ -11,7 +11,7 @@ use Rattle.std.proofs.lemmas.Option.{slice_get-map, slice_get-get_or, slice_get_
 use Rattle.sr_model.specs.Dump.{is_bit}
 use Rattle.dump_reader.specs.declared.dump.Tri.{Tri}
 use Rattle.dump_reader.specs.declared.dump.Tri.TheVariants.{Zero, One, X}
-use Rattle.dump_reader.specs.Recording.{bit_of}
+use Rattle.dump_reader.specs.Recording.{tri_bit}
 use Rattle.unroll.specs.declared.words.PinWord.{PinWord}
 use Rattle.unroll.specs.Bits.{is_set, word_for}
 use Rattle.unroll.proofs.lemmas.Words.{is_set_or, is_set_zero}
@@ -19,7 +19,7 @@ use Rattle.known_planes.specs.Planes.{no_bits}
 
 -- the words have the bits of the first k cells
 abbrev pub HasFirst : List Tri → ℕ → PinWord → Type 0
-HasFirst cells k w = (bit : Bool) (i : ℕ) → is_set (word_for bit w) i ≡ (ltb i k && is_bit (slice_get (map bit_of cells) i) bit)
+HasFirst cells k w = (bit : Bool) (i : ℕ) → is_set (word_for bit w) i ≡ (ltb i k && is_bit (slice_get (map tri_bit cells) i) bit)
 
 -- the word with one bit
 one-bit : (k i : ℕ) → k < 64 → is_set (1 * 2 ^ k % 2 ^ 64) i ≡ eqb i k
@@ -70,23 +70,23 @@ left-more i k x there =
 
 module _ (cells : List Tri) (k : ℕ) (w : PinWord) (few : length cells ≤ 64) (h : k < length cells) (first : HasFirst cells k w) where
   -- the bit of the cell
-  cell-bit : (t : Tri) → get_or cells k Zero ≡ t → (bit : Bool) (i : ℕ) → i ≡ k → is_bit (slice_get (map bit_of cells) i) bit ≡ is_bit (Some (bit_of t)) bit
+  cell-bit : (t : Tri) → get_or cells k Zero ≡ t → (bit : Bool) (i : ℕ) → i ≡ k → is_bit (slice_get (map tri_bit cells) i) bit ≡ is_bit (Some (tri_bit t)) bit
   cell-bit t is bit i same =
-      ap (λ n. is_bit (slice_get (map bit_of cells) n) bit) same ∙ ap (λ x. is_bit x bit) (slice_get-map bit_of cells k)
-      ∙ ap (λ x. is_bit (option_map bit_of x) bit) (slice_get-get_or cells k Zero h)
-      ∙ ap (λ x. is_bit (Some (bit_of x)) bit) is
+      ap (λ n. is_bit (slice_get (map tri_bit cells) n) bit) same ∙ ap (λ x. is_bit x bit) (slice_get-map tri_bit cells k)
+      ∙ ap (λ x. is_bit (option_map tri_bit x) bit) (slice_get-get_or cells k Zero h)
+      ∙ ap (λ x. is_bit (Some (tri_bit x)) bit) is
 
-  join-bit : (bit : Bool) → ((i : ℕ) → i ≡ k → is_bit (slice_get (map bit_of cells) i) bit ≡ true)
-      → (i : ℕ) → is_set (bit_or (word_for bit w) (1 * 2 ^ k % 2 ^ 64)) i ≡ (ltb i (k + 1) && is_bit (slice_get (map bit_of cells) i) bit)
+  join-bit : (bit : Bool) → ((i : ℕ) → i ≡ k → is_bit (slice_get (map tri_bit cells) i) bit ≡ true)
+      → (i : ℕ) → is_set (bit_or (word_for bit w) (1 * 2 ^ k % 2 ^ 64)) i ≡ (ltb i (k + 1) && is_bit (slice_get (map tri_bit cells) i) bit)
   join-bit bit there i =
       is_set_or (word_for bit w) (1 * 2 ^ k % 2 ^ 64) i
       ∙ ap (λ t. t || is_set (1 * 2 ^ k % 2 ^ 64) i) (first bit i)
-      ∙ ap (λ t. (ltb i k && is_bit (slice_get (map bit_of cells) i) bit) || t) (one-bit k i (omega (arith, few, h)))
-      ∙ joined-more i k (is_bit (slice_get (map bit_of cells) i) bit) (there i)
+      ∙ ap (λ t. (ltb i k && is_bit (slice_get (map tri_bit cells) i) bit) || t) (one-bit k i (omega (arith, few, h)))
+      ∙ joined-more i k (is_bit (slice_get (map tri_bit cells) i) bit) (there i)
 
-  leave-bit : (bit : Bool) → ((i : ℕ) → i ≡ k → is_bit (slice_get (map bit_of cells) i) bit ≡ false)
-      → (i : ℕ) → is_set (word_for bit w) i ≡ (ltb i (k + 1) && is_bit (slice_get (map bit_of cells) i) bit)
-  leave-bit bit there i = first bit i ∙ left-more i k (is_bit (slice_get (map bit_of cells) i) bit) (there i)
+  leave-bit : (bit : Bool) → ((i : ℕ) → i ≡ k → is_bit (slice_get (map tri_bit cells) i) bit ≡ false)
+      → (i : ℕ) → is_set (word_for bit w) i ≡ (ltb i (k + 1) && is_bit (slice_get (map tri_bit cells) i) bit)
+  leave-bit bit there i = first bit i ∙ left-more i k (is_bit (slice_get (map tri_bit cells) i) bit) (there i)
 
   pub zero-more : get_or cells k Zero ≡ Zero → HasFirst cells (k + 1) (record { zero = bit_or w.zero (1 * 2 ^ k % 2 ^ 64); one = w.one })
   zero-more is false i = join-bit false (λ i same. cell-bit Zero is false i same) i
@@ -102,26 +102,26 @@ module _ (cells : List Tri) (k : ℕ) (w : PinWord) (few : length cells ≤ 64) 
 
 -- no cell
 pub has-none : (cells : List Tri) → HasFirst cells 0 no_bits
-has-none cells true i = is_set_zero i ∙ sym (ap (λ t. t && is_bit (slice_get (map bit_of cells) i) true) (le-ltb i 0 (omega arith)))
-has-none cells false i = is_set_zero i ∙ sym (ap (λ t. t && is_bit (slice_get (map bit_of cells) i) false) (le-ltb i 0 (omega arith)))
+has-none cells true i = is_set_zero i ∙ sym (ap (λ t. t && is_bit (slice_get (map tri_bit cells) i) true) (le-ltb i 0 (omega arith)))
+has-none cells false i = is_set_zero i ∙ sym (ap (λ t. t && is_bit (slice_get (map tri_bit cells) i) false) (le-ltb i 0 (omega arith)))
 
 -- past the cells there is no bit
-pub no-bit-past : (cells : List Tri) (i : ℕ) (bit : Bool) → length cells ≤ i → is_bit (slice_get (map bit_of cells) i) bit ≡ false
-no-bit-past cells i bit past = ap (λ x. is_bit x bit) (slice_get-map bit_of cells i) ∙ ap (λ x. is_bit (option_map bit_of x) bit) (slice_get_past cells i past)
+pub no-bit-past : (cells : List Tri) (i : ℕ) (bit : Bool) → length cells ≤ i → is_bit (slice_get (map tri_bit cells) i) bit ≡ false
+no-bit-past cells i bit past = ap (λ x. is_bit x bit) (slice_get-map tri_bit cells i) ∙ ap (λ x. is_bit (option_map tri_bit x) bit) (slice_get_past cells i past)
 
 -- all cells
-pub has-all : (cells : List Tri) (k : ℕ) (w : PinWord) → length cells ≤ k → HasFirst cells k w → (bit : Bool) (i : ℕ) → is_set (word_for bit w) i ≡ is_bit (slice_get (map bit_of cells) i) bit
+pub has-all : (cells : List Tri) (k : ℕ) (w : PinWord) → length cells ≤ k → HasFirst cells k w → (bit : Bool) (i : ℕ) → is_set (word_for bit w) i ≡ is_bit (slice_get (map tri_bit cells) i) bit
 has-all cells k w all first bit i =
     first bit i ∙ elim (cases_lt i k) [
-      | inl h ↦ ap (λ t. t && is_bit (slice_get (map bit_of cells) i) bit) (lt-ltb i k h)
-      | inr h ↦ ap (λ t. t && is_bit (slice_get (map bit_of cells) i) bit) (le-ltb i k h) ∙ sym (no-bit-past cells i bit (omega (arith, all, h)))
+      | inl h ↦ ap (λ t. t && is_bit (slice_get (map tri_bit cells) i) bit) (lt-ltb i k h)
+      | inr h ↦ ap (λ t. t && is_bit (slice_get (map tri_bit cells) i) bit) (le-ltb i k h) ∙ sym (no-bit-past cells i bit (omega (arith, all, h)))
     ]
 
 -- the cells of a chunk
 pub chunk-cell : (cells : List Tri) (start end i : ℕ) → end ≡ min (length cells) (start + 64) → i < 64
-    → slice_get (map bit_of (slice_range cells start end)) i ≡ slice_get (map bit_of cells) (start + i)
+    → slice_get (map tri_bit (slice_range cells start end)) i ≡ slice_get (map tri_bit cells) (start + i)
 chunk-cell cells start end i is few =
-    slice_get-map bit_of (slice_range cells start end) i ∙ ap (option_map bit_of) same ∙ sym (slice_get-map bit_of cells (start + i))
+    slice_get-map tri_bit (slice_range cells start end) i ∙ ap (option_map tri_bit) same ∙ sym (slice_get-map tri_bit cells (start + i))
   where
     size : length (slice_range cells start end) ≡ min (end - start) (length cells - start)
     size = length-take (end - start) (drop start cells) ∙ ap (min (end - start)) (length-drop start cells)

@@ -2,7 +2,7 @@
 ghost use Rattle.std.specs.Prelude.{ℕ, ◌≡◌, ◌<◌, ◌≤◌, ◌==◌, ◌&&◌, ◌||◌, Bool, IfOk, All, length, map, slice_get};
 ghost use Rattle.sr_model.specs.declared.cells.Lit.{Lit};
 ghost use Rattle.sr_model.specs.Dump.{dump_has, is_bit};
-ghost use Rattle.dump_reader.specs.Recording.{bit_of};
+ghost use Rattle.dump_reader.specs.Recording.{tri_bit};
 ghost use Rattle.unroll.specs.Bits.{is_set, word_for};
 ghost use Rattle.unroll.specs.Problem.{signals_in, chunks_in, block_at, HasNoLaterBit};
 ghost use Rattle.known_planes.specs.Planes.{has, words_at, with_words, IsOf, joined};
@@ -33,7 +33,7 @@ fn join_row(planes: &mut Planes, p: &Problem, s: Sig, cells: &[Tri])
     requires signal { s.0 < signals_in p.now }
     requires cells { length cells.now ≡ p.now.cycles }
     ensures of { IsOf p.now planes.new }
-    ensures literals { (l : Lit) → has p.now planes.new l ≡ (has p.now planes.old l || ((s.0 == l.cell.sig.0) && is_bit (slice_get (map bit_of cells.now) l.cell.cycle) l.bit)) }
+    ensures literals { (l : Lit) → has p.now planes.new l ≡ (has p.now planes.old l || ((s.0 == l.cell.sig.0) && is_bit (slice_get (map tri_bit cells.now) l.cell.cycle) l.bit)) }
 {
     for chunk in 0..p.chunks() {
         let start = 64 * chunk as usize;
@@ -63,7 +63,7 @@ fn join_words(planes: &mut Planes, p: &Problem, s: Sig, chunk: u32, words: PinWo
 /// The literals of up to 64 cells.
 fn words_of(cells: &[Tri]) -> PinWord
     requires { length cells.now ≤ 64 }
-    ensures { (bit : Bool) (i : ℕ) → is_set (word_for bit result) i ≡ is_bit (slice_get (map bit_of cells.now) i) bit }
+    ensures { (bit : Bool) (i : ℕ) → is_set (word_for bit result) i ≡ is_bit (slice_get (map tri_bit cells.now) i) bit }
 {
     let mut words = PinWord { zero: 0, one: 0 };
     for (i, cell) in cells.iter().enumerate() {

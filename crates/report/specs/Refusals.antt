@@ -19,14 +19,14 @@ abbrev pub key_of : List ℕ → List ℕ
 key_of word = before_first (λ b. b == 61) word
 
 -- commas part the names that are the value of a word
-abbrev pub names_of : List ℕ → List (List ℕ)
-names_of word = slice_split (λ b. b == 44) (after_first (λ b. b == 61) word)
+abbrev pub listed_names : List ℕ → List (List ℕ)
+listed_names word = slice_split (λ b. b == 44) (after_first (λ b. b == 61) word)
 
 abbrev pub word_at : List (List ℕ) → ℕ → List ℕ
 word_at words place = get_or words place []
 
 abbrev pub item_of : List (List ℕ) → (place item : ℕ) → List ℕ
-item_of words place item = get_or (names_of (word_at words place)) item []
+item_of words place item = get_or (listed_names (word_at words place)) item []
 
 -- ---- what has to be there
 
@@ -38,7 +38,7 @@ pub record HasKey (words : List (List ℕ)) (place : ℕ) : Type 0 where
 -- and among the names that are its value is this item
 pub record HasItem (words : List (List ℕ)) (place item : ℕ) : Type 0 where
   pub key : HasKey words place
-  pub there : item < length (names_of (word_at words place))
+  pub there : item < length (listed_names (word_at words place))
 
 abbrev pub WordIsThere : List (List ℕ) → WordRefusal → Type 0
 WordIsThere words word_refusals.Usage = ⊤

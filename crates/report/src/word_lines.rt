@@ -1,7 +1,7 @@
 //! The lines of what the words ask for and do not get.
 ghost use Rattle.std.specs.Prelude.{◌≡◌, ◌<◌, ◌++◌, [], codes, get_or, length, map};
 ghost use Rattle.std.specs.String.{string_bytes};
-ghost use Rattle.report.specs.Refusals.{HasItem, IsKeyed, WordIsThere, item_of, key_of, many_cells_line, names_of, word_line};
+ghost use Rattle.report.specs.Refusals.{HasItem, IsKeyed, WordIsThere, item_of, key_of, many_cells_line, listed_names, word_line};
 ghost use Rattle.report.specs.Writes.{Writes};
 
 use crate::pieces::{write_pieces, write_text};
@@ -68,8 +68,8 @@ fn key_of(word: &str) -> &str
 /// A name of the list that is the value of the word.
 fn name_in(word: &str, item: u32) -> &str
     requires keyed { IsKeyed word.now }
-    requires there { item < length (names_of word.now) }
-    ensures { result.now ≡ get_or (names_of word.now) item [] }
+    requires there { item < length (listed_names word.now) }
+    ensures { result.now ≡ get_or (listed_names word.now) item [] }
 {
     let (_, list) = word.split_once('=').unwrap();
     list.split(',').nth(item as usize).unwrap()

@@ -7,7 +7,7 @@ use Rattle.std.proofs.Math.Seq.{drop-append-add, get_or-append_seam, take-append
 use Rattle.std.proofs.lemmas.List.{get_or_append_left, length-append}
 use Rattle.std.proofs.lemmas.List.Sums.{position_or_len_is}
 use Rattle.std.proofs.lemmas.Option.{get_or_from_slice_get, slice_get_within}
-use Rattle.report.specs.Refusals.{HasKey, IsKeyed, key_of, names_of, word_at}
+use Rattle.report.specs.Refusals.{HasKey, IsKeyed, key_of, listed_names, word_at}
 use Rattle.restore_program.specs.TraceRefusals.{HasListAt}
 use Rattle.restore_program.specs.Words.{CommandRule, Gives, IsBadAt, IsBadNumber, trace_rule}
 
@@ -29,7 +29,7 @@ gift_value : (word key value : List ℕ) → Gives word key value → after_firs
 gift_value word key value g =
     ap (after_first (λ b. b == 61)) g.spelled ∙ ap (λ n. drop (n + 1) (key ++ 61 ∷ value)) (key_end key value g.first) ∙ drop-append-add key (61 ∷ value) 1
 
-pub gift_names : (word key value : List ℕ) → Gives word key value → names_of word ≡ slice_split (λ b. b == 44) value
+pub gift_names : (word key value : List ℕ) → Gives word key value → listed_names word ≡ slice_split (λ b. b == 44) value
 gift_names word key value g = ap (slice_split (λ b. b == 44)) (gift_value word key value g)
 
 -- ---- the word of a bad number
@@ -49,5 +49,5 @@ list_at words place word list at gives =
     let is : word_at words place ≡ word = get_or_from_slice_get words place word [] at in
     record {
       key = record { placed = slice_get_within words place word at; keyed = subst IsKeyed (sym is) (gift_keyed word trace_rule.name list gives) };
-      names = ap names_of is ∙ gift_names word trace_rule.name list gives;
+      names = ap listed_names is ∙ gift_names word trace_rule.name list gives;
     }

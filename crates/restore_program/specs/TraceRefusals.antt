@@ -3,7 +3,7 @@ use Rattle.std.specs.Prelude.{ℕ, ◌≡◌, ⊤, List, Contains, length}
 use Rattle.netlist.specs.Circuit.{Circuit}
 use Rattle.report.specs.declared.refusal.Refusal.{Refusal}
 use Rattle.report.specs.declared.refusal.Refusal.TheVariants as refusals
-use Rattle.report.specs.Refusals.{HasKey, names_of, word_at}
+use Rattle.report.specs.Refusals.{HasKey, listed_names, word_at}
 use Rattle.restore_program.specs.Tracing.{StandsNext, names_in}
 use Rattle.restore_program.specs.declared.trace.TraceRefusal.{TraceRefusal}
 use Rattle.restore_program.specs.declared.trace.TraceRefusal.TheVariants as traces
@@ -22,7 +22,7 @@ IsTraceRefusal c names traces.NoMemory = ⊤
 -- the word at this place gives this list to its key
 pub record HasListAt (words : List (List ℕ)) (place : ℕ) (list : List ℕ) : Type 0 where
   pub key : HasKey words place
-  pub names : names_of (word_at words place) ≡ names_in list
+  pub names : listed_names (word_at words place) ≡ names_in list
 
 -- the refusal of the list that the word at a place gives
 abbrev pub list_refusal : TraceRefusal → ℕ → Refusal

@@ -33,8 +33,8 @@ abbrev pub IsFull : Option (List ℕ) → Option ℕ → Type 0
 IsFull written room = IfSome written (λ bytes. IfSome room (λ most. length bytes ≡ most))
 
 -- where both are told, no more bytes are written than there is room for
-abbrev pub IsWithin : Option (List ℕ) → Option ℕ → Type 0
-IsWithin written room = IfSome written (λ bytes. IfSome room (λ most. length bytes ≤ most))
+abbrev pub FitsRoom : Option (List ℕ) → Option ℕ → Type 0
+FitsRoom written room = IfSome written (λ bytes. IfSome room (λ most. length bytes ≤ most))
 
 -- where both are told, there is no room for the whole text
 abbrev pub LacksPlace : Option (List ℕ) → Option ℕ → List ℕ → Type 0

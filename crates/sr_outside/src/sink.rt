@@ -2,7 +2,7 @@
 ghost use Rattle.std.specs.Prelude.{◌≡◌, ◌<◌, ◌≤◌, ℕ, List, length, take, IfOk, OnOk, OnErr, Option};
 ghost use Rattle.std.specs.Io.KnownBytes.{append_known};
 ghost use Rattle.sr_outside.specs.Counts.{IsCounted};
-ghost use Rattle.sr_outside.specs.Told.{IsFull, IsWithin};
+ghost use Rattle.sr_outside.specs.Told.{IsFull, FitsRoom};
 
 use crate::inputs::Failed;
 
@@ -33,6 +33,6 @@ pub trait Sink {
         ensures uncounted { OnOk result (faults self.new ≡ faults self.old) }
         ensures never_falls { faults self.old ≤ faults self.new }
 
-        ensures within { IsWithin (written self.new) (room self.new) }
+        ensures within { FitsRoom (written self.new) (room self.new) }
         ensures room { room self.new ≡ room self.old };
 }

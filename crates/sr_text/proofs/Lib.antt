@@ -1,2 +1,3 @@
 mod ReadsDecimal
 mod Tokens
+pub mod lemmas

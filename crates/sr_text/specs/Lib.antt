@@ -1,3 +1,4 @@
+pub mod Lines
 pub mod Name
 pub mod Numbers
 pub mod Text

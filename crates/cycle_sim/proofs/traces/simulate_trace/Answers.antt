@@ -2,7 +2,7 @@ use Rattle.std.proofs.Common.{◌<◌, Some, length, map, get_or, sym, ap, subst
 use Rattle.std.specs.List.{range_with_len}
 use Rattle.std.proofs.lemmas.List.{take_all}
 use Rattle.sr_model.specs.Netlist.{Valuation}
-use Rattle.dump_reader.specs.Recording.{bit_of, row_of}
+use Rattle.dump_reader.specs.Recording.{tri_bit, row_of}
 use Rattle.cycle_sim.specs.BitTable.{bit_in}
 use Rattle.cycle_sim.specs.Simulation.{IsSimulated, traced_rows}
 use Rattle.cycle_sim.proofs.lemmas.Simulations.{simulation_exists}
@@ -25,7 +25,7 @@ loop-j-preserved c = (
   λ v sim. rows-more v c.args.s.now.count c.args.sigs.now c.loop-j.j (record { 0 = 0 }) c.loop-j.dump.rows c.add_row.new.self.rows (row_of (get_or c.args.sigs.now c.loop-j.j (record { 0 = 0 })) c.as_slice.result.now)
       c.loop-j-test.true c.in_ok-add_row.ensures.rows (c.loop-j.invariant.1 v sim)
       (row-is (λ cycle. bit_in c.in_ok-bits.bits cycle c.loop-j.j) v c.as_slice.result.now c.args.s.now.count (get_or c.args.sigs.now c.loop-j.j (record { 0 = 0 }))
-      (ap (map bit_of) c.as_slice.ensures ∙ c.in_ok-fill.ensures ∙ ap (λ n. map (λ cycle. Some (bit_in c.in_ok-bits.bits cycle c.loop-j.j)) (range_with_len 0 n)) c.in_ok-bits.ensures.count)
+      (ap (map tri_bit) c.as_slice.ensures ∙ c.in_ok-fill.ensures ∙ ap (λ n. map (λ cycle. Some (bit_in c.in_ok-bits.bits cycle c.loop-j.j)) (range_with_len 0 n)) c.in_ok-bits.ensures.count)
       (λ cycle h. c.in_ok-bits.ensures.bits v sim cycle c.loop-j.j (subst (λ n. cycle < n) (sym c.in_ok-bits.ensures.count) h) c.loop-j-test.true)),
 )
 

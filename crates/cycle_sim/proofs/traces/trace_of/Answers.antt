@@ -1,7 +1,7 @@
 use Rattle.std.proofs.Common.{Some, length, map, get_or, refl, sym, ap, ◌∙◌}
 use Rattle.std.specs.List.{range_with_len}
 use Rattle.sr_model.specs.declared.cells.Sig.{Sig}
-use Rattle.dump_reader.specs.Recording.{bit_of, row_of}
+use Rattle.dump_reader.specs.Recording.{tri_bit, row_of}
 use Rattle.cycle_sim.specs.BitTable.{BitTable, bit_in}
 use Rattle.cycle_sim.specs.Simulation.{bits_of}
 use Rattle.cycle_sim.proofs.Tracing.{cells-size, row-is, rows-more, new-signal}
@@ -24,7 +24,7 @@ loop-sig-preserved c =
       rows-more (bits_of c.args.e.now) c.args.e.now.count c.args.sigs.now c.loop-sig.sig-index (record { 0 = 0 }) c.loop-sig.dump.rows c.add_row.new.self.rows (row_of s c.as_slice.result.now)
           c.loop-sig-test.true c.in_ok-add_row.ensures.rows c.loop-sig.invariant.1
           (row-is (λ cycle. bit_in c.args.e.now cycle s.0) (bits_of c.args.e.now) c.as_slice.result.now c.args.e.now.count s
-          (ap (map bit_of) c.as_slice.ensures ∙ c.in_ok-fill.ensures
+          (ap (map tri_bit) c.as_slice.ensures ∙ c.in_ok-fill.ensures
           ∙ ap (λ (t : BitTable). map (λ cycle. Some (bit_in t cycle s.0)) (range_with_len 0 t.count)) c.bits.ensures)
           (λ cycle h. refl)),
     )

@@ -2,25 +2,24 @@ use Rattle.std.proofs.Common.{refl, ◌∙◌, ap, subst, length, List, [], ◌�
 use Rattle.std.proofs.lemmas.Result.{err_from_is_err_and}
 use Rattle.dump_reader.specs.declared.dump.Tri.{Tri}
 use Rattle.dump_reader.specs.Recording.{row_of}
-use Rattle.dump_reader.specs.Reading.{rest_of, past, ReadsCycles, IsCyclesRefusal}
-use Rattle.dump_reader.proofs.ReadSoFar.{all_read, from_first, starts, more, row_refused, cycles_refused, states_full}
+use Rattle.sr_text.specs.Lines.{rest_of, past}
+use Rattle.dump_reader.specs.Reading.{ReadsCycles, IsCyclesRefusal}
+use Rattle.dump_reader.proofs.ReadSoFar.{all_read, starts, more, row_refused, cycles_refused, states_full}
 use Rattle.dump_reader.proofs.SameRows.{spells_recording}
 use Rattle.dump_reader.proofs.reader.read_dump.Goals as goal
 
 pub returns-in_err-cycles-clause-refusal : goal.returns-in_err-cycles-clause-refusal
 returns-in_err-cycles-clause-refusal c =
     let p = err_from_is_err_and c.from_residual-in_err-cycles.result c.from_residual-in_err-cycles.ensures.1 in
-    let first = from_first c.args.bytes.now c.new-lines.result.passed c.new-lines.result.lines c.new-lines.ensures.passed c.new-lines.ensures.lines in
     rw (p.1, p.2)
     (cycles_refused c.args.n.now.names (length c.args.n.now.drivers) c.args.bytes.now (past c.read_head.new.lines) (rest_of c.new-lines.result) (rest_of c.read_head.new.lines) c.in_err-cycles.field-0.0
-    first.0 (c.read_head.ensures.past ∙ first.1) c.in_ok-read_head.ensures.head
+    c.new-lines.ensures.left (c.read_head.ensures.past ∙ c.new-lines.ensures.past) c.in_ok-read_head.ensures.head
     (subst (λ n. IsCyclesRefusal n (past c.read_head.new.lines) (rest_of c.read_head.new.lines) c.in_err-cycles.field-0.0) c.signals.ensures.count c.in_err-cycles.ensures.refusal))
 
 pub loop-line-init : goal.loop-line-init
 loop-line-init c =
-    let first = from_first c.args.bytes.now c.new-lines.result.passed c.new-lines.result.lines c.new-lines.ensures.passed c.new-lines.ensures.lines in
     starts c.args.n.now.names (length c.args.n.now.drivers) c.args.bytes.now (rest_of c.new-lines.result) (rest_of c.read_head.new.lines) (rest_of c.read_cycles.new.lines) c.in_ok-cycles.cycles c.new-dump.result
-    first.0 c.in_ok-read_head.ensures.head
+    c.new-lines.ensures.left c.in_ok-read_head.ensures.head
     (subst (λ n. ReadsCycles n c.in_ok-cycles.cycles (rest_of c.read_head.new.lines) (rest_of c.read_cycles.new.lines)) c.signals.ensures.count c.in_ok-cycles.ensures.cycles) c.new-dump.ensures.cycles c.new-dump.ensures.rows
 
 pub returns-in_err-sig-clause-refusal : goal.returns-in_err-sig-clause-refusal

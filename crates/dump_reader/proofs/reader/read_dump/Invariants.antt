@@ -1,5 +1,5 @@
 use Rattle.std.proofs.Common.{length}
-use Rattle.dump_reader.specs.Reading.{rest_of}
+use Rattle.sr_text.specs.Lines.{rest_of}
 use Rattle.dump_reader.proofs.ReadSoFar.{HasRead}
 use Rattle.dump_reader.proofs.reader.read_dump.Given as goal
 

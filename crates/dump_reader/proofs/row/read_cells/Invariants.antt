@@ -1,7 +1,7 @@
 use Rattle.std.proofs.Common.{◌≡◌, map, take, Some}
-use Rattle.dump_reader.specs.Recording.{bit_of}
+use Rattle.dump_reader.specs.Recording.{tri_bit}
 use Rattle.dump_reader.specs.Grammar.{bit_read}
 use Rattle.dump_reader.proofs.row.read_cells.Given as goal
 
 abbrev pub invariant-loop-character : goal.invariant-loop-character
-invariant-loop-character l = map bit_read (take l.character-index l.characters) ≡ map (λ cell. Some (bit_of cell)) l.cells.items
+invariant-loop-character l = map bit_read (take l.character-index l.characters) ≡ map (λ cell. Some (tri_bit cell)) l.cells.items

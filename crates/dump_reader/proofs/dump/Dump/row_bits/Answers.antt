@@ -2,7 +2,7 @@ use Rattle.std.proofs.Common.{◌≡◌, ◌+◌, ◌-◌, ◌*◌, List, length
 use Rattle.std.specs.Prelude.{option_map}
 use Rattle.sr_model.specs.Dump.{Row}
 use Rattle.dump_reader.specs.declared.dump.Tri.{Tri}
-use Rattle.dump_reader.specs.Recording.{bit_of}
+use Rattle.dump_reader.specs.Recording.{tri_bit}
 use Rattle.dump_reader.proofs.Rows.{sees_within, sees_row, row_within}
 use Rattle.dump_reader.proofs.dump.Dump.row_bits.Goals as goal
 
@@ -27,5 +27,5 @@ returns-clause-cells c =
     let len : c.self.inside.cycles ≡ start + c.self.inside.cycles - start = omega arith in
     ap (λ (o : Option Row). option_map (λ (row : Row). row.bits) o)
     (sees_row c.self.inside.cycles c.self.inside.sigs.items c.self.inside.cells.items c.args.self.now c.args.i (record { 0 = 0 }) c.self.view_is c.requires)
-    ∙ ap (λ n. Some (map bit_of (take n (drop start c.self.inside.cells.items)))) len
-    ∙ ap (λ (cells : List Tri). Some (map bit_of (take (start + c.self.inside.cycles - start) (drop start cells)))) (sym c.deref.ensures.value)
+    ∙ ap (λ n. Some (map tri_bit (take n (drop start c.self.inside.cells.items)))) len
+    ∙ ap (λ (cells : List Tri). Some (map tri_bit (take (start + c.self.inside.cycles - start) (drop start cells)))) (sym c.deref.ensures.value)
