@@ -1,5 +1,5 @@
 -- How large a netlist and a dump may be. Each number stands once, as a constant of the code.
-use Rattle.std.specs.Prelude.{ℕ}
+use Rattle.std.specs.Prelude.{ℕ, ◌+◌, ◌*◌, ◌/◌}
 use Rattle.sr_model.specs.declared.limits.TheConstants.{MAX_SIGNALS, MAX_GATE_PINS, MAX_GATE_SIGNALS, MAX_PINS, MAX_CYCLES, MAX_BLOCKS}
 
 -- signals of a netlist
@@ -25,3 +25,11 @@ max_cycles = MAX_CYCLES
 -- blocks of a netlist over a number of cycles: its signals, times the chunks of 64 cycles
 abbrev pub max_blocks : ℕ
 max_blocks = MAX_BLOCKS
+
+-- how many chunks of 64 cycles there are, the last one perhaps not full
+abbrev pub chunk_count : ℕ → ℕ
+chunk_count cycles = (cycles + 63) / 64
+
+-- how many blocks signals have over a number of cycles: one for each signal and chunk
+abbrev pub block_count : ℕ → ℕ → ℕ
+block_count signals cycles = signals * chunk_count cycles

@@ -18,6 +18,8 @@ pub use laws::{
     closure_laws, decision_laws, forcing_laws, growing_laws, missed_example, soundness_laws,
     worked_example,
 };
-pub use limits::{MAX_BLOCKS, MAX_CYCLES, MAX_GATE_PINS, MAX_GATE_SIGNALS, MAX_PINS, MAX_SIGNALS};
+pub use limits::{
+    MAX_BLOCKS, MAX_CYCLES, MAX_GATE_PINS, MAX_GATE_SIGNALS, MAX_PINS, MAX_SIGNALS, block_count,
+};
 pub use lists::{Bytes, Lits, Names, NoMemory, Sequence, Sigs, Statements};
 pub use statements::{Numbered, Statement};
