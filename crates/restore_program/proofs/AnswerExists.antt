@@ -14,7 +14,7 @@ use Rattle.netlist.specs.Wiring.{flip_flops}
 use Rattle.netlist.proofs.lemmas.Laws.{netlist_or_refused}
 use Rattle.bench_reader.specs.Printed.{bench_text}
 use Rattle.bench_reader.proofs.lemmas.Laws as bench
-use Rattle.dump_reader.specs.Grammar.{block_count}
+use Rattle.sr_model.specs.Limits.{block_count, max_blocks}
 use Rattle.dump_reader.specs.Print.{printed}
 use Rattle.dump_reader.specs.Recording.{Recording}
 use Rattle.dump_reader.proofs.lemmas.Laws as dumps
@@ -90,7 +90,7 @@ trace_decided : (c : Circuit) → IsCircuit c → (cycles seed : ℕ) (list : Li
 trace_decided c is cycles seed list = elim (names_decided c is (names_in list)) [
   | inr (inl (name, unknown)) ↦ (unknown_trace_line name, statuses.Words, refused_names _ _ (unknown_name name unknown))
   | inr (inr (name, twice)) ↦ (trace_twice_line name, statuses.Words, refused_names _ _ (name_twice name twice))
-  | inl (sigs, named) ↦ elim (cases_lt 4194304 (block_count (length c.drivers) cycles)) [
+  | inl (sigs, named) ↦ elim (cases_lt max_blocks (block_count (length c.drivers) cycles)) [
     | inl many ↦ (many_cells_line (block_count (length c.drivers) cycles), statuses.Dump, refused_cells sigs _ _ named (many_cells many))
     | inr few ↦
         let run = simulation_exists c is cycles (drawn_bit seed (length c.inputs)) in

@@ -4,6 +4,7 @@ use Rattle.std.specs.Prelude.{option_map}
 use Rattle.std.specs.List.{slice_get}
 use Rattle.std.proofs.lemmas.List.{length-map}
 use Rattle.std.proofs.lemmas.Option.{same_Some, slice_get-map, slice_get_read, slice_get_within}
+use Rattle.sr_model.specs.Limits.{max_cycles}
 use Rattle.restore_program.specs.TraceRefusals.{HasListAt}
 use Rattle.restore_program.specs.Words.{Gives, IsBadNumber, Simulates, trace_rule}
 use Rattle.restore_program.specs.Requests.{Traces}
@@ -24,7 +25,7 @@ module _ {A : Type 0} (text : A → List ℕ) (xs : List A) where
     pub trace_within : trace < length xs
     trace_within = within_words text xs trace is.has_trace.1.word is.has_trace.1.at
 
-    pub cycles_counted : (1 ≤ cycles) × (cycles ≤ 8192)
+    pub cycles_counted : (1 ≤ cycles) × (cycles ≤ max_cycles)
     cycles_counted = let number = is.has_cycles.3 in (number.1, number.2)
 
     -- the netlist by its word

@@ -11,20 +11,6 @@ use Rattle.report.specs.Refusals.{HasKey, IsKeyed, key_of, listed_names, word_at
 use Rattle.restore_program.specs.TraceRefusals.{HasListAt}
 use Rattle.restore_program.specs.Words.{CommandRule, Gives, IsBadAt, IsBadNumber, trace_rule}
 
-pub gift_keyed : (word key value : List ℕ) → Gives word key value → IsKeyed word
-gift_keyed word key value g = (key, value, g.spelled)
-
--- the first `=` is the one behind the key
-key_end : (key value : List ℕ) → All (λ b. b ≢ 61) key → position_or_len (λ b. b == 61) (key ++ 61 ∷ value) ≡ length key
-key_end key value first =
-    position_or_len_is (λ b. b == 61) (key ++ 61 ∷ value) (length key) 0 (omega (arith, length-append key (61 ∷ value)))
-    (λ k less. let other = first k 0 less in let here : get_or (key ++ 61 ∷ value) k 0 ≡ get_or key k 0 = get_or_append_left key (61 ∷ value) 0 k less in grind (arith, nat_tests))
-    (λ _. ap (λ b. b == 61) (get_or-append_seam key 61 value 0))
-
-pub gift_key : (word key value : List ℕ) → Gives word key value → key_of word ≡ key
-gift_key word key value g =
-    ap key_of g.spelled ∙ ap (λ n. take n (key ++ 61 ∷ value)) (key_end key value g.first) ∙ take-append_seam key (61 ∷ value)
-
 gift_value : (word key value : List ℕ) → Gives word key value → after_first (λ b. b == 61) word ≡ value
 gift_value word key value g =
     ap (after_first (λ b. b == 61)) g.spelled ∙ ap (λ n. drop (n + 1) (key ++ 61 ∷ value)) (key_end key value g.first) ∙ drop-append-add key (61 ∷ value) 1

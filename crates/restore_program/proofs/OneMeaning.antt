@@ -6,6 +6,7 @@ use Rattle.std.proofs.lemmas.Bool.{cases_order}
 use Rattle.std.proofs.lemmas.Fmt.{decimal_injective}
 use Rattle.std.proofs.lemmas.List.{get_or-drop, length-drop}
 use Rattle.std.proofs.lemmas.Option.{slice_get_within, get_or_from_slice_get, same_Some}
+use Rattle.sr_model.specs.Limits.{max_cycles, max_signals}
 use Rattle.restore_program.specs.declared.words.Settings.{Settings}
 use Rattle.restore_program.specs.declared.words.Settings.TheVariants as settings
 use Rattle.report.specs.declared.refusal.WordRefusal.{WordRefusal}
@@ -139,7 +140,7 @@ simulate_or_bad words netlist cycles seed trace place is (suc (suc (suc k)), key
 pub one_simulation : (words : List (List ℕ)) (netlist more : List ℕ) (cycles seed trace cycles' seed' trace' : ℕ) → Simulates words netlist cycles seed trace → Simulates words more cycles' seed' trace'
     → (cycles ≡ cycles') × (seed ≡ seed') × (trace ≡ trace')
 one_simulation words netlist more cycles seed trace cycles' seed' trace' is other = (
-  one_number simulate_rule words cycles_rule 1 8192 cycles cycles' (given_cycles words is.shaped) refl (lit< tt) is.has_cycles other.has_cycles,
+  one_number simulate_rule words cycles_rule 1 max_cycles cycles cycles' (given_cycles words is.shaped) refl (lit< tt) is.has_cycles other.has_cycles,
   one_number simulate_rule words seed_rule 0 (2 ^ 64 - 1) seed seed' (given_seed words is.shaped) refl (lit< tt) is.has_seed other.has_seed,
   same_place simulate_rule words trace_rule trace trace' is.has_trace.0 other.has_trace.0 (given_trace words is.shaped) is.has_trace.1 other.has_trace.1,
 )
@@ -164,7 +165,7 @@ load_never_bad words n signals place is (suc (suc k), key, h, e, more) = absurd 
 pub one_load : (words : List (List ℕ)) (number signals number' signals' : ℕ) → Loads words number signals → Loads words number' signals' → (number ≡ number') × (signals ≡ signals')
 one_load words n signals n' signals' is other = (
   one_number load_rule words number_rule 0 (2 ^ 64 - 1) n n' (given_number_key words is.shaped) refl (lit< tt) is.has_number other.has_number,
-  one_number load_rule words signals_rule 16 65536 signals signals' (given_signals words is.shaped) refl (lit< tt) is.has_signals other.has_signals,
+  one_number load_rule words signals_rule 16 max_signals signals signals' (given_signals words is.shaped) refl (lit< tt) is.has_signals other.has_signals,
 )
 
 -- ---- the settings of words

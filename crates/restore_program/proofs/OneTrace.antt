@@ -8,7 +8,7 @@ use Rattle.std.proofs.lemmas.Option.{get_or_from_slice_get, slice_get_within}
 use Rattle.sr_model.specs.declared.cells.Sig.{Sig}
 use Rattle.sr_model.proofs.lemmas.Members.{Contains-cases, Contains-here, not_in_nil}
 use Rattle.netlist.specs.Circuit.{Circuit, IsCircuit}
-use Rattle.dump_reader.specs.Grammar.{block_count}
+use Rattle.sr_model.specs.Limits.{block_count, max_blocks}
 use Rattle.dump_reader.specs.Print.{printed}
 use Rattle.restore_program.specs.declared.status.Status.{Status}
 use Rattle.restore_program.specs.declared.status.Status.TheVariants as statuses
@@ -156,7 +156,7 @@ one_refused_count : (signals cycles : ℕ) (text other : List ℕ) (status last 
 one_refused_count signals cycles text other status last (many_cells many) (many_cells many_too) = (refl, refl)
 
 -- no count of cells is both too many and not
-refused-or-few : (signals cycles : ℕ) (text : List ℕ) (status : Status) → block_count signals cycles ≤ 4194304 → ¬ RefusedCells signals cycles text status
+refused-or-few : (signals cycles : ℕ) (text : List ℕ) (status : Status) → block_count signals cycles ≤ max_blocks → ¬ RefusedCells signals cycles text status
 refused-or-few signals cycles text status few (many_cells many) = omega (arith, many, few)
 
 pub one_on_trace : (c : Circuit) (cycles seed : ℕ) (list text other : List ℕ) (status last : Status) → IsCircuit c → OnTrace c cycles seed list text status → OnTrace c cycles seed list other last → (text ≡ other) × (status ≡ last)
@@ -172,7 +172,7 @@ one_on_trace c cycles seed list text other status last is (traced sigs t named f
     (same-text c seed cycles (names_in list) sigs others t u is named named_too traces traces_too, refl)
 
 -- the trace of names of signals, each once, and of few enough cells
-pub traced_done : (c : Circuit) (cycles seed : ℕ) (list text : List ℕ) (status : Status) (sigs : List Sig) → AreNamed c (names_in list) sigs → block_count (length c.drivers) cycles ≤ 4194304 → OnTrace c cycles seed list text status
+pub traced_done : (c : Circuit) (cycles seed : ℕ) (list text : List ℕ) (status : Status) (sigs : List Sig) → AreNamed c (names_in list) sigs → block_count (length c.drivers) cycles ≤ max_blocks → OnTrace c cycles seed list text status
     → status ≡ statuses.Done
 traced_done c cycles seed list text status sigs named few (refused_names _ _ refused) = absurd (refused-or-named c (names_in list) text status sigs named refused)
 traced_done c cycles seed list text status sigs named few (refused_cells _ _ _ _ refused) = absurd (refused-or-few (length c.drivers) cycles text status few refused)

@@ -8,9 +8,6 @@ use Rattle.restore_program.specs.declared.status.Status.TheVariants as statuses
 use Rattle.restore_program.specs.Reply.{IsTableReply, status_of}
 use Rattle.restore_program.specs.ReplyAnswers.{ReplyAnswer, fault_of}
 
-no_memory : Reply
-no_memory = replies.Refused refusals.NoMemory
-
 abbrev pub IsPrepared : Reply → Reply → Type 0
 IsPrepared reply prepared = (prepared ≡ reply) ⊎ (IsTableReply reply × (prepared ≡ replies.Refused refusals.NoMemory))
 

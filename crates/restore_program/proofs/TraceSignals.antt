@@ -10,6 +10,7 @@ use Rattle.std.proofs.lemmas.Map.Steps.{length-le_from_distinct_below}
 use Rattle.std.proofs.lemmas.Map.Views.{Contains-from_any}
 use Rattle.std.proofs.lemmas.List.{get_or-map, length-map}
 use Rattle.std.proofs.lemmas.Option.{same_Some, slice_get_within}
+use Rattle.sr_model.specs.Limits.{max_signals}
 use Rattle.sr_model.specs.declared.cells.Sig.{Sig}
 use Rattle.sr_model.specs.Netlist.{Valuation}
 use Rattle.sr_model.specs.Dump.{Row}
@@ -34,7 +35,7 @@ rows_within v cycles count sigs within k d h =
     subst (λ (row : Row). row.sig.0 < count) (sym (get_or-map (traced_row v cycles) sigs k d.sig d at)) (within k d.sig at)
 
 -- they are no more than the netlist has
-pub signals_few : (c : Circuit) → IsCircuit c → (names : List (List ℕ)) (sigs : List Sig) → AreNamed c names sigs → length sigs ≤ 65536
+pub signals_few : (c : Circuit) → IsCircuit c → (names : List (List ℕ)) (sigs : List Sig) → AreNamed c names sigs → length sigs ≤ max_signals
 signals_few c circuit names sigs named = omega (arith, circuit.few_signals, few, length-map sigs number)
   where
     number : Sig → ℕ

@@ -2,6 +2,7 @@
 use Rattle.std.proofs.Common.{◌⊎◌, ◌<◌, ◌^◌, ◌-◌, ℕ, List, [], length, get_or, inl, inr, refl, lit<, arith}
 use Rattle.std.specs.Prelude.{Contains}
 use Rattle.std.proofs.lemmas.Option.{slice_get-get_or}
+use Rattle.sr_model.specs.Limits.{max_cycles, max_signals}
 use Rattle.restore_program.specs.Requests.{Asks, Request, loading, printing, restoration, simulation}
 use Rattle.restore_program.specs.WordLaws.{WordsAreDecided}
 use Rattle.restore_program.specs.Words.{CommandRule, IsBadAt, IsBadNumber, IsCommand, IsShaped, all_rule, command_rules, cycles_rule, load_rule, number_rule, print_rule, restore_rule, seed_rule, signals_rule, simulate_rule, trace_rule}
@@ -31,7 +32,7 @@ module _ (words : List (List ℕ)) where
 
   asked_simulate : IsShaped simulate_rule words → NoBad simulate_rule → AsksSome
   asked_simulate shaped good =
-      let cycles = good_gift simulate_rule words cycles_rule 0 1 8192 (lit< tt) refl refl good ((shaped.given 0 cycles_rule (lit< tt)).given refl) in
+      let cycles = good_gift simulate_rule words cycles_rule 0 1 max_cycles (lit< tt) refl refl good ((shaped.given 0 cycles_rule (lit< tt)).given refl) in
       let seed = good_gift simulate_rule words seed_rule 1 0 (2 ^ 64 - 1) (lit< tt) refl refl good ((shaped.given 1 seed_rule (lit< tt)).given refl) in
       let trace = gift_behind simulate_rule words trace_rule ((shaped.given 2 trace_rule (lit< tt)).given refl) in (
         simulation (get_or words 1 []) cycles.0 seed.0 trace.1,
@@ -45,7 +46,7 @@ module _ (words : List (List ℕ)) where
   asked_load : IsShaped load_rule words → NoBad load_rule → AsksSome
   asked_load shaped good =
       let number = good_gift load_rule words number_rule 0 0 (2 ^ 64 - 1) (lit< tt) refl refl good ((shaped.given 0 number_rule (lit< tt)).given refl) in
-      let signals = good_gift load_rule words signals_rule 1 16 65536 (lit< tt) refl refl good ((shaped.given 1 signals_rule (lit< tt)).given refl) in
+      let signals = good_gift load_rule words signals_rule 1 16 max_signals (lit< tt) refl refl good ((shaped.given 1 signals_rule (lit< tt)).given refl) in
       (loading number.0 signals.0, record { shaped = shaped; has_number = number.1; has_signals = signals.1 })
 
   abbrev OneOfThree : Type 0

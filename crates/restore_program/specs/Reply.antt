@@ -8,7 +8,7 @@ use Rattle.netlist.specs.declared.checks.NetRefusal.{NetRefusal}
 use Rattle.netlist.specs.declared.checks.NetRefusal.TheVariants as net
 use Rattle.dump_reader.specs.declared.refusal.DumpRefusal.{DumpRefusal}
 use Rattle.dump_reader.specs.declared.refusal.DumpRefusal.TheVariants as dumps
-use Rattle.dump_reader.specs.Grammar.{block_count}
+use Rattle.sr_model.specs.Limits.{block_count, max_blocks}
 use Rattle.dump_reader.specs.Recording.{IsCount}
 use Rattle.unroll.specs.Problem.{Unrolling}
 use Rattle.known_planes.specs.Planes.{IsOf, has}
@@ -34,7 +34,7 @@ unrolling_of table = record { circuit = table.netlist; cycles = table.cycles }
 -- the planes are those of the netlist over the cycles, and have not both literals of a cell
 pub record IsTable (table : Table) : Type 0 where
   pub cycles : IsCount table.cycles
-  pub few : block_count (length table.netlist.drivers) table.cycles ≤ 4194304
+  pub few : block_count (length table.netlist.drivers) table.cycles ≤ max_blocks
   pub of : IsOf (unrolling_of table) table.planes
   pub no_clash : (cell : Cell) → HasBoth (passing (has (unrolling_of table) table.planes)) cell → ⊥
   pub traced : table.traced ≤ 536870912

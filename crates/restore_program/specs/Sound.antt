@@ -9,7 +9,7 @@ use Rattle.sr_model.specs.Dump.{Matches}
 use Rattle.sr_outside.specs.Told.{Held}
 use Rattle.netlist.specs.Circuit.{Circuit, unrolled_over}
 use Rattle.dump_reader.specs.Recording.{Recording}
-use Rattle.dump_reader.specs.Grammar.{block_count}
+use Rattle.sr_model.specs.Limits.{block_count, max_blocks}
 use Rattle.report.specs.Table.{known_rows, table_text}
 use Rattle.restore_program.specs.declared.status.Status.{Status}
 use Rattle.restore_program.specs.declared.status.Status.TheVariants as statuses
@@ -59,7 +59,7 @@ NoneMatches words held = (c : Circuit) × (d : Recording) × (all : Bool) × Acc
 -- nothing else that is asked of this netlist is refused: the names of a trace are those of signals, each once, and the cells are not too many
 abbrev pub IsAllowedOn : Circuit → Request → Type 0
 IsAllowedOn c (restoration netlist dump all) = ⊤
-IsAllowedOn c (simulation netlist cycles seed list) = (sigs : List Sig) × AreNamed c (names_in list) sigs × (block_count (length c.drivers) cycles ≤ 4194304)
+IsAllowedOn c (simulation netlist cycles seed list) = (sigs : List Sig) × AreNamed c (names_in list) sigs × (block_count (length c.drivers) cycles ≤ max_blocks)
 IsAllowedOn c (printing netlist) = ⊤
 IsAllowedOn c (loading number signals) = ⊤
 

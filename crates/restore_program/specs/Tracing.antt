@@ -4,7 +4,7 @@ use Rattle.std.specs.List.{AllPairs, slice_get, slice_split}
 use Rattle.sr_model.specs.declared.cells.Sig.{Sig}
 use Rattle.sr_model.specs.Netlist.{Valuation}
 use Rattle.netlist.specs.Circuit.{Circuit}
-use Rattle.dump_reader.specs.Grammar.{block_count}
+use Rattle.sr_model.specs.Limits.{block_count, max_blocks}
 use Rattle.dump_reader.specs.Print.{printed}
 use Rattle.cycle_sim.specs.Drawing.{drawn_bit}
 use Rattle.cycle_sim.specs.Simulation.{IsSimulated, traced_rows}
@@ -51,11 +51,11 @@ pub data RefusedNames (c : Circuit) (names : List (List ℕ)) : List ℕ → Sta
 
 -- by the words there are too many cells of so many signals
 pub data RefusedCells (signals cycles : ℕ) : List ℕ → Status → Type 0 where
-  many_cells : 4194304 < block_count signals cycles → RefusedCells signals cycles (many_cells_line (block_count signals cycles)) statuses.Dump
+  many_cells : max_blocks < block_count signals cycles → RefusedCells signals cycles (many_cells_line (block_count signals cycles)) statuses.Dump
 
 -- on a netlist, so many cycles, a seed and a list of names
 pub data OnTrace (c : Circuit) (cycles seed : ℕ) (list : List ℕ) : List ℕ → Status → Type 0 where
   refused_names : (text : List ℕ) (status : Status) → RefusedNames c (names_in list) text status → OnTrace c cycles seed list text status
   refused_cells : (sigs : List Sig) (text : List ℕ) (status : Status) → AreNamed c (names_in list) sigs → RefusedCells (length c.drivers) cycles text status → OnTrace c cycles seed list text status
-  traced : (sigs : List Sig) (text : List ℕ) → AreNamed c (names_in list) sigs → block_count (length c.drivers) cycles ≤ 4194304 → IsTraceText c seed cycles sigs text
+  traced : (sigs : List Sig) (text : List ℕ) → AreNamed c (names_in list) sigs → block_count (length c.drivers) cycles ≤ max_blocks → IsTraceText c seed cycles sigs text
       → OnTrace c cycles seed list text statuses.Done

@@ -2,6 +2,7 @@
 use Rattle.std.specs.Prelude.{ℕ, ◌≡◌, ◌≢◌, ◌+◌, ◌-◌, ◌^◌, ◌<◌, ◌≤◌, ◌==◌, ◌⊎◌, ◌↔◌, ⊤, Bool, true, false, List, [], ◌∷◌, ◌++◌, length, drop, codes, All, AllPairs, Any, IsTrue, Some}
 use Rattle.std.specs.List.{slice_get, slice_split}
 use Rattle.std.specs.Fmt.{decimal}
+use Rattle.sr_model.specs.Limits.{max_cycles, max_signals}
 
 -- ---- the table of the commands
 
@@ -30,7 +31,7 @@ abbrev pub restore_rule : CommandRule
 restore_rule = record { name = codes "restore"; files = 2; keys = all_rule ∷ [] }
 
 abbrev pub cycles_rule : KeyRule
-cycles_rule = record { name = codes "cycles"; required = true; takes = number 1 8192 }
+cycles_rule = record { name = codes "cycles"; required = true; takes = number 1 max_cycles }
 
 abbrev pub seed_rule : KeyRule
 seed_rule = record { name = codes "seed"; required = true; takes = number 0 (2 ^ 64 - 1) }
@@ -48,7 +49,7 @@ abbrev pub number_rule : KeyRule
 number_rule = record { name = codes "number"; required = true; takes = number 0 (2 ^ 64 - 1) }
 
 abbrev pub signals_rule : KeyRule
-signals_rule = record { name = codes "signals"; required = true; takes = number 16 65536 }
+signals_rule = record { name = codes "signals"; required = true; takes = number 16 max_signals }
 
 abbrev pub load_rule : CommandRule
 load_rule = record { name = codes "load"; files = 0; keys = number_rule ∷ signals_rule ∷ [] }

@@ -1,4 +1,12 @@
-//! The program: from the words of the command line to the text that is written.
+//! The program as one call: `run` takes the words of the command line, reads the inputs that they name, and writes what they ask for to a sink.
+//!
+//! - In: `words` reads the words by the table of `word_rules`, `netlists` a netlist by its name.
+//! - One file a command makes its reply, which has all that is written and its status: `restore`, `simulate`, `print`, `load`.
+//! - Out: `top` writes the reply by `report`. The contract of `run` is the headline: what is written is the answer to the words, each bit in it holds in every execution
+//!   that matches the dump, and faults come from the inputs and the sink alone.
+//!
+//! Only tested: that no more calls of the inputs and the sink are made than serve. An input may have as many bytes as `most_bytes` of
+//! `netlists` says; the other limits are those of `sr_model`.
 #![tactic(auto)]
 
 mod laws;

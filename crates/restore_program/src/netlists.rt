@@ -15,12 +15,15 @@ use report::{Part, Refusal};
 use sr_outside::{Inputs, ReadRefusal, read_whole};
 use std::alloc::Global;
 
+/// Bytes of an input.
+const MAX_BYTES: u64 = 16_777_216;
+
 /// The most bytes of an input.
 pub(crate) fn most_bytes(part: Part) -> u64
     ensures { result ≡ most_bytes part }
 {
     match part {
-        Part::Netlist | Part::Dump => 16_777_216,
+        Part::Netlist | Part::Dump => MAX_BYTES,
     }
 }
 

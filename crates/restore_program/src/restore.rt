@@ -5,7 +5,7 @@ ghost use Rattle.sr_model.specs.declared.cells.Lit.{Lit};
 ghost use Rattle.sr_model.specs.Closure.{Closure, HasBoth, SameLits};
 ghost use Rattle.sr_model.specs.Dump.{Row, dump_has};
 ghost use Rattle.report.specs.declared.refusal.Part.TheVariants as parts;
-ghost use Rattle.dump_reader.specs.Grammar.{block_count};
+ghost use Rattle.sr_model.specs.Limits.{block_count, max_blocks};
 ghost use Rattle.unroll.specs.Problem.{signals_in, unrolled};
 ghost use Rattle.known_planes.specs.Planes.{IsOf, has, lits};
 ghost use Rattle.restore_program.specs.Answer.{DumpAnswer, OnDump, OnRecording, RequestAnswer, most_bytes};
@@ -170,7 +170,7 @@ fn clash_from(alloc: Global, p: &Problem, base: &Planes) -> Result<Outcome, NoMe
 
 /// What is written of what follows from a dump.
 fn outcome_reply(netlist: Netlist, dump: &Dump, all: bool, outcome: Outcome) -> Reply
-    requires few { block_count (length netlist.drivers) dump.now.cycles ≤ 4194304 }
+    requires few { block_count (length netlist.drivers) dump.now.cycles ≤ max_blocks }
     requires outcome { IsOutcome (record { circuit = netlist; cycles = dump.now.cycles }) dump.now.rows outcome }
     ensures answer { (words : List (List ℕ)) → Replies words (OnRecording netlist dump.now all) result }
     ensures ready { (words : List (List ℕ)) → IsReady words result }
@@ -185,7 +185,7 @@ fn outcome_reply(netlist: Netlist, dump: &Dump, all: bool, outcome: Outcome) -> 
 
 /// What is written of what is known.
 fn known_reply(netlist: Netlist, dump: &Dump, all: bool, planes: Planes, traced: u64) -> Reply
-    requires few { block_count (length netlist.drivers) dump.now.cycles ≤ 4194304 }
+    requires few { block_count (length netlist.drivers) dump.now.cycles ≤ max_blocks }
     requires known { IsKnown (record { circuit = netlist; cycles = dump.now.cycles }) dump.now.rows planes }
     requires traced { IsTraced (record { circuit = netlist; cycles = dump.now.cycles }) dump.now.rows traced }
     ensures answer { (words : List (List ℕ)) → Replies words (OnRecording netlist dump.now all) result }

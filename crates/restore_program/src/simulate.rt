@@ -19,12 +19,9 @@ use cycle_sim::{simulate_trace, stimulus};
 use dump_reader::print_dump;
 use netlist::Netlist;
 use report::Refusal;
-use sr_model::{Bytes, NoMemory, Sig};
+use sr_model::{Bytes, MAX_BLOCKS, NoMemory, Sig, block_count};
 use sr_outside::Inputs;
 use std::alloc::Global;
-
-/// The most blocks of 64 cycles over all signals.
-const MOST_BLOCKS: u64 = 4_194_304;
 
 /// What is written of this netlist over so many cycles from this seed, with a trace of the signals whose names the list has, which is that of the word at the place.
 pub(crate) fn simulate_reply<I: Inputs>(
@@ -63,8 +60,8 @@ fn traced_reply(alloc: Global, n: &Netlist, cycles: u32, seed: u64, place: u32, 
             };
         }
     };
-    let product = u64::from(n.signals()) * u64::from(cycles.div_ceil(64));
-    if product > MOST_BLOCKS {
+    let product = block_count(n.signals(), cycles);
+    if product > MAX_BLOCKS {
         return Reply::Refused {
             refusal: Refusal::CellsByWords { product },
         };

@@ -1,4 +1,5 @@
 //! The commands, their files and their keys.
+use sr_model::{MAX_CYCLES, MAX_SIGNALS};
 
 /// What a key takes.
 #[derive(Clone, Copy)]
@@ -44,7 +45,7 @@ pub(crate) const CYCLES: Key = Key {
     required: true,
     takes: Takes::Number {
         least: 1,
-        most: 8192,
+        most: MAX_CYCLES,
     },
 };
 
@@ -89,7 +90,7 @@ pub(crate) const SIGNALS: Key = Key {
     required: true,
     takes: Takes::Number {
         least: 16,
-        most: 65536,
+        most: MAX_SIGNALS as u64,
     },
 };
 

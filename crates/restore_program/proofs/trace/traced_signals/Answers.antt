@@ -3,6 +3,7 @@ use Rattle.std.proofs.lemmas.Bool.{true≢false}
 use Rattle.std.proofs.lemmas.List.{get_or_default, length-set, length_push, take_all}
 use Rattle.std.proofs.lemmas.Iterator.Splits.{YieldsList-from_str_split}
 use Rattle.std.proofs.lemmas.Iterator.Consumers.{YieldsList-turn, YieldsList-end}
+use Rattle.sr_model.specs.Limits.{max_signals}
 use Rattle.restore_program.specs.Tracing.{AreNamed, names_in}
 use Rattle.restore_program.proofs.TraceSignals.{signals_few}
 use Rattle.restore_program.proofs.TraceNames.{unknown-first, twice-first, named-more, marks-more, has-place}
@@ -10,7 +11,7 @@ use Rattle.restore_program.proofs.trace.traced_signals.Goals as goal
 
 pub overflow_cast-item : goal.overflow_cast-item
 overflow_cast-item c =
-    let few : length c.loop-name.sigs.items ≤ 65536 = signals_few _ c.signals.ensures.circuit _ _ c.loop-name.invariant.1 in
+    let few : length c.loop-name.sigs.items ≤ max_signals = signals_few _ c.signals.ensures.circuit _ _ c.loop-name.invariant.1 in
     omega (arith, few, c.len-item.ensures)
 
 pub returns-in_default-find-clause-refusal : goal.returns-in_default-find-clause-refusal

@@ -1,6 +1,7 @@
 use Rattle.std.proofs.Common.{Any, ◌-◌, List, ℕ, map, take, drop, length, refl, sym, subst, lit<, Global}
 use Rattle.std.specs.Prelude.{All}
 use Rattle.std.specs.String.{string_bytes}
+use Rattle.sr_model.specs.Limits.{max_signals}
 use Rattle.restore_program.specs.Words.{load_rule, number_rule, signals_rule}
 use Rattle.restore_program.specs.WordRules.{IsBadFor}
 use Rattle.restore_program.proofs.Loads.{number_given, signals_given}
@@ -20,7 +21,7 @@ unwrap-requires-2 c =
     let text = string_bytes {Z = Global} in
     let words = c.args.words.now in
     let rest : List (List ℕ) = map text (take (length words - 1) (drop 1 words)) in
-    number_found load_rule.keys 1 signals_rule 16 65536 rest c.number_of-2.result (lit< tt) refl refl (signals_given (map text words) rest c.requires (drop_images text 1 words)) (subst (All (λ word. ¬ Any (IsBadFor word) load_rule.keys)) (sym (drop_images text 1 words)) c.in_ok-check_numbers.ensures.good) c.number_of-2.ensures
+    number_found load_rule.keys 1 signals_rule 16 max_signals rest c.number_of-2.result (lit< tt) refl refl (signals_given (map text words) rest c.requires (drop_images text 1 words)) (subst (All (λ word. ¬ Any (IsBadFor word) load_rule.keys)) (sym (drop_images text 1 words)) c.in_ok-check_numbers.ensures.good) c.number_of-2.ensures
 
 pub returns : goal.returns
 returns c =

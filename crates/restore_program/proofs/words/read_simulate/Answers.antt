@@ -2,6 +2,7 @@ use Rattle.std.proofs.Common.{Any, ◌<◌, ◌+◌, ◌-◌, List, ℕ, map, ta
 use Rattle.std.proofs.lemmas.List.{length-map}
 use Rattle.std.specs.Prelude.{All}
 use Rattle.std.specs.String.{string_bytes}
+use Rattle.sr_model.specs.Limits.{max_cycles}
 use Rattle.restore_program.specs.Words.{cycles_rule, seed_rule, simulate_rule, trace_rule, IsFor}
 use Rattle.restore_program.specs.WordRules.{IsBadFor}
 use Rattle.restore_program.proofs.FewWords.{few_words}
@@ -14,7 +15,7 @@ unwrap-requires c =
     let text = string_bytes {Z = Global} in
     let words = c.args.words.now in
     let rest : List (List ℕ) = map text (take (length words - 2) (drop 2 words)) in
-    number_found simulate_rule.keys 0 cycles_rule 1 8192 rest c.number_of.result (lit< tt) refl refl (cycles_given (map text words) rest c.requires (drop_images text 2 words)) (subst (All (λ word. ¬ Any (IsBadFor word) simulate_rule.keys)) (sym (drop_images text 2 words)) c.in_ok-check_numbers.ensures.good) c.number_of.ensures
+    number_found simulate_rule.keys 0 cycles_rule 1 max_cycles rest c.number_of.result (lit< tt) refl refl (cycles_given (map text words) rest c.requires (drop_images text 2 words)) (subst (All (λ word. ¬ Any (IsBadFor word) simulate_rule.keys)) (sym (drop_images text 2 words)) c.in_ok-check_numbers.ensures.good) c.number_of.ensures
 
 pub unwrap-requires-2 : goal.unwrap-requires-2
 unwrap-requires-2 c =
