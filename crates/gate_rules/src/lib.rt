@@ -1,4 +1,13 @@
-//! What a gate or flip-flop forces, 64 cycles at a time.
+//! What a gate or flip-flop forces in 64 cycles at once, of the words that tell what is known: exactly the literals that the one-gate rule forces, instance by instance.
+//!
+//! `rules` has the calls: what a task forces, in all cycles or in those of a mask, and what of it is new. `gates` takes a gate's task by its kind to `and_like`, for the kinds
+//! that only ask whether all pins have one bit, or to `parity`; `flip_flops` takes a flip-flop's, over two chunks. `tally` counts applications, `laws` the laws.
+//!
+//! Each call stands by the number of a task and, as `*_in_chunk`, by signal and chunk; the first is one call of the second.
+//!
+//! Only tested: the rules beside a plain walk over the rows of the definition.
+//!
+//! Limits: the lists of blocks and words are the caller's and of one length; nothing takes memory. A `Count` stands still at the greatest u64.
 #![tactic(auto)]
 
 mod and_like;

@@ -2,6 +2,7 @@
 use Rattle.std.specs.Prelude.{ℕ, ◌+◌, ◌*◌, ◌/◌, ◌%◌, ◌<◌, ◌≤◌, Bool, IsTrue, List, length, slice_index_or}
 use Rattle.sr_model.specs.declared.cells.Cell.{Cell}
 use Rattle.sr_model.specs.declared.cells.Sig.{Sig}
+use Rattle.sr_model.specs.Limits.{max_cycles, max_blocks}
 use Rattle.sr_model.specs.Netlist.{Driver, Unrolled}
 use Rattle.netlist.specs.Circuit.{Circuit, IsCircuit, unrolled_over}
 use Rattle.netlist.specs.Wiring.{driver_at, is_driven}
@@ -32,8 +33,8 @@ blocks_in u = signals_in u * chunks_in u
 pub record IsProblem (u : Unrolling) : Type 0 where
   pub is_circuit : IsCircuit u.circuit
   pub some_cycles : 1 ≤ u.cycles
-  pub few_cycles : u.cycles ≤ 8192
-  pub few_blocks : blocks_in u ≤ 4194304
+  pub few_cycles : u.cycles ≤ max_cycles
+  pub few_blocks : blocks_in u ≤ max_blocks
 
 -- the block of a signal in a chunk: blocks go by signal and then by chunk
 abbrev pub block_at : Unrolling → Sig → ℕ → Block

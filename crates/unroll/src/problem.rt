@@ -1,6 +1,7 @@
 //! A netlist over a number of cycles, and its blocks.
 ghost use Rattle.std.specs.Prelude.{ℕ, ◌≡◌, ◌+◌, ◌*◌, ◌<◌, ◌≤◌, length, IsTrue};
-ghost use Rattle.unroll.specs.Bits.{is_set, is_cycle, chunk_count};
+ghost use Rattle.sr_model.specs.Limits.{max_cycles, max_blocks};
+ghost use Rattle.unroll.specs.Bits.{is_set, is_cycle};
 ghost use Rattle.unroll.specs.Problem.{IsProblem, chunks_in, blocks_in, block_at, sig_at, chunk_at, is_target, IsInside};
 ghost use Rattle.unroll.specs.Tasks.{task_at, goes_on_from};
 
@@ -50,8 +51,8 @@ impl<'n> Problem<'n> {
     /// The netlist over this number of cycles.
     pub fn new(net: &'n Netlist, cycles: u32) -> Problem<'n>
         requires some_cycles { 1 ≤ cycles }
-        requires few_cycles { cycles ≤ 8192 }
-        requires few_blocks { length net.now.drivers * chunk_count cycles ≤ 4194304 }
+        requires few_cycles { cycles ≤ max_cycles }
+        requires few_blocks { blocks_in (record { circuit = net.now; cycles = cycles }) ≤ max_blocks }
         ensures { result ≡ record { circuit = net.now; cycles = cycles } }
     {
         let chunks = cycles.div_ceil(64);
@@ -72,7 +73,7 @@ impl<'n> Problem<'n> {
         self.net
     }
 
-    /// The number of cycles, 1 to 8,192.
+    /// The number of cycles, 1 to `MAX_CYCLES`.
     pub fn cycles(&self) -> u32
         ensures { result ≡ self.now.cycles }
     {

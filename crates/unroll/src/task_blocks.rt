@@ -1,5 +1,6 @@
 //! The blocks of a task.
 ghost use Rattle.std.specs.Prelude.{◌≡◌, ◌+◌, ◌<◌, ◌≤◌, ◌++◌, ◌∷◌, [], length};
+ghost use Rattle.sr_model.specs.Limits.{max_gate_signals};
 ghost use Rattle.unroll.specs.Problem.{IsInside};
 ghost use Rattle.unroll.specs.Tasks.{IsTask, blocks_of, blocks_from, blocks_for};
 
@@ -12,9 +13,9 @@ impl<'n> Problem<'n> {
     /// chunk, and its own in the next chunk where there is one. Time is linear in their number.
     pub fn blocks_of(&self, t: Task, into: &mut Blocks)
         requires task { IsTask self.now t }
-        requires room { 1025 ≤ into.old.room }
+        requires room { max_gate_signals ≤ into.old.room }
         ensures blocks { into.new.items ≡ blocks_of self.now t }
-        ensures few { length into.new.items ≤ 1025 }
+        ensures few { length into.new.items ≤ max_gate_signals }
         ensures room { into.new.room ≡ into.old.room }
     {
         self.blocks_in_chunk(self.in_chunk(Block(t.0)), into)
@@ -23,9 +24,9 @@ impl<'n> Problem<'n> {
     /// The same by signal and chunk; there is no division.
     pub fn blocks_in_chunk(&self, at: InChunk, into: &mut Blocks)
         requires inside { IsInside self.now at }
-        requires room { 1025 ≤ into.old.room }
+        requires room { max_gate_signals ≤ into.old.room }
         ensures blocks { into.new.items ≡ blocks_from self.now at.sig at.chunk }
-        ensures few { length into.new.items ≤ 1025 }
+        ensures few { length into.new.items ≤ max_gate_signals }
         ensures room { into.new.room ≡ into.old.room }
     {
         into.clear();

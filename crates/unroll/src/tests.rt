@@ -1,7 +1,7 @@
 //! The tasks and blocks of a small netlist, worked out by hand.
 use crate::{Block, Blocks, Problem, Task, Tasks};
 use netlist::{Netlist, are_statements, build};
-use sr_model::{Bytes, Kind, Names, NoMemory, Numbered, Statement, Statements};
+use sr_model::{Bytes, Kind, MAX_GATE_SIGNALS, Names, NoMemory, Numbered, Statement, Statements};
 use std::alloc::Global;
 use std::process::Abort;
 use std::test::Fail;
@@ -91,7 +91,7 @@ fn tasks_have_their_blocks(rt: HostRuntime) -> Result<(), Fail> {
         (16, &[1, 7, 16]),
     ];
     for (task, numbers) in cases {
-        let mut blocks = Blocks::with_room(rt.alloc(), 1025)?;
+        let mut blocks = Blocks::with_room(rt.alloc(), MAX_GATE_SIGNALS)?;
         assert!(rt; task < problem.blocks() && problem.is_task(Block(task)));
         problem.blocks_of(Task(task), &mut blocks);
         assert!(rt;

@@ -2,7 +2,7 @@
 use super::net_of;
 use crate::{forced, forced_in_cycles};
 use netlist::Netlist;
-use sr_model::Kind;
+use sr_model::{Kind, MAX_GATE_SIGNALS};
 use std::alloc::Global;
 use std::process::Abort;
 use std::test::Fail;
@@ -96,7 +96,7 @@ fn blocks_in(
 ) -> Result<Blocks, Fail> {
     assert!(rt; chunk < problem.blocks());
     assert!(rt; problem.is_task(Block(chunk)));
-    let mut blocks = Blocks::with_room(alloc, 1025)?;
+    let mut blocks = Blocks::with_room(alloc, MAX_GATE_SIGNALS)?;
     problem.blocks_of(Task(chunk), &mut blocks);
     Ok(blocks)
 }
@@ -111,7 +111,7 @@ fn forced_words(
 ) -> Result<PinWords, Fail> {
     assert!(rt; chunk < problem.blocks());
     assert!(rt; problem.is_task(Block(chunk)));
-    let mut blocks = Blocks::with_room(alloc, 1025)?;
+    let mut blocks = Blocks::with_room(alloc, MAX_GATE_SIGNALS)?;
     problem.blocks_of(Task(chunk), &mut blocks);
     let mut out = noise_for(alloc, problem, &blocks)?;
     assert!(rt; view.len() == blocks.len());

@@ -4,7 +4,7 @@
 use super::net_of;
 use crate::{Count, apply, forced, forced_in_cycles};
 use netlist::Netlist;
-use sr_model::Kind;
+use sr_model::{Kind, MAX_GATE_SIGNALS};
 use std::alloc::Global;
 use std::process::Abort;
 use std::test::Fail;
@@ -162,7 +162,7 @@ fn forced_words(
 ) -> Result<PinWords, Fail> {
     assert!(rt; problem.blocks() > 0);
     assert!(rt; problem.is_task(Block(0)));
-    let mut blocks = Blocks::with_room(alloc, 1025)?;
+    let mut blocks = Blocks::with_room(alloc, MAX_GATE_SIGNALS)?;
     problem.blocks_of(Task(0), &mut blocks);
     let mut out = view_of(alloc, 0, problem.blocks())?;
     assert!(rt; view.len() == blocks.len());
@@ -181,7 +181,7 @@ fn masked_words(
 ) -> Result<PinWords, Fail> {
     assert!(rt; problem.blocks() > 0);
     assert!(rt; problem.is_task(Block(0)));
-    let mut blocks = Blocks::with_room(alloc, 1025)?;
+    let mut blocks = Blocks::with_room(alloc, MAX_GATE_SIGNALS)?;
     problem.blocks_of(Task(0), &mut blocks);
     let mut out = view_of(alloc, 0, problem.blocks())?;
     assert!(rt; view.len() == blocks.len());
@@ -199,7 +199,7 @@ fn new_words(
 ) -> Result<PinWords, Fail> {
     assert!(rt; problem.blocks() > 0);
     assert!(rt; problem.is_task(Block(0)));
-    let mut blocks = Blocks::with_room(alloc, 1025)?;
+    let mut blocks = Blocks::with_room(alloc, MAX_GATE_SIGNALS)?;
     problem.blocks_of(Task(0), &mut blocks);
     let mut out = view_of(alloc, 0, problem.blocks())?;
     assert!(rt; view.len() == blocks.len());
