@@ -1,5 +1,5 @@
 -- Words of 64 bits, a bit for each cycle of a chunk.
-use Rattle.std.specs.Prelude.{ℕ, ◌+◌, ◌*◌, ◌/◌, ◌==◌, Bool, true, false, bit_or, nat_lt}
+use Rattle.std.specs.Prelude.{ℕ, ◌+◌, ◌*◌, ◌==◌, Bool, true, false, bit_or, nat_lt}
 use Rattle.std.specs.Int.{bit_at}
 use Rattle.unroll.specs.declared.words.PinWord.{PinWord}
 
@@ -19,10 +19,6 @@ no_words = record { zero = 0; one = 0 }
 -- the literals of both
 abbrev pub union_of : PinWord → PinWord → PinWord
 union_of a b = record { zero = bit_or a.zero b.zero; one = bit_or a.one b.one }
-
--- how many chunks of 64 cycles there are, the last one perhaps not full
-abbrev pub chunk_count : ℕ → ℕ
-chunk_count cycles = (cycles + 63) / 64
 
 -- whether there is a cycle for bit i of a chunk
 abbrev pub is_cycle : ℕ → ℕ → ℕ → Bool

@@ -2,14 +2,14 @@
 use Rattle.std.specs.Prelude.{ℕ, ◌+◌, ◌*◌, ◌/◌, ◌%◌, ◌<◌, ◌≤◌, Bool, IsTrue, List, length, slice_index_or}
 use Rattle.sr_model.specs.declared.cells.Cell.{Cell}
 use Rattle.sr_model.specs.declared.cells.Sig.{Sig}
-use Rattle.sr_model.specs.Limits.{max_cycles, max_blocks}
+use Rattle.sr_model.specs.Limits.{max_cycles, max_blocks, chunk_count, block_count}
 use Rattle.sr_model.specs.Netlist.{Driver, Unrolled}
 use Rattle.netlist.specs.Circuit.{Circuit, IsCircuit, unrolled_over}
 use Rattle.netlist.specs.Wiring.{driver_at, is_driven}
 use Rattle.unroll.specs.declared.problem.Block.{Block}
 use Rattle.unroll.specs.declared.problem.InChunk.{InChunk}
 use Rattle.unroll.specs.declared.words.PinWord.{PinWord}
-use Rattle.unroll.specs.Bits.{is_set, is_cycle, word_for, no_words, chunk_count}
+use Rattle.unroll.specs.Bits.{is_set, is_cycle, word_for, no_words}
 
 -- what contracts see of a problem
 pub record Unrolling : Type 0 where
@@ -27,7 +27,7 @@ abbrev pub chunks_in : Unrolling → ℕ
 chunks_in u = chunk_count u.cycles
 
 abbrev pub blocks_in : Unrolling → ℕ
-blocks_in u = signals_in u * chunks_in u
+blocks_in u = block_count (signals_in u) u.cycles
 
 -- what every problem keeps
 pub record IsProblem (u : Unrolling) : Type 0 where

@@ -1,6 +1,6 @@
 //! A netlist over a number of cycles, and its blocks.
 ghost use Rattle.std.specs.Prelude.{ℕ, ◌≡◌, ◌+◌, ◌*◌, ◌<◌, ◌≤◌, length, IsTrue};
-ghost use Rattle.sr_model.specs.Limits.{max_cycles, max_blocks};
+ghost use Rattle.sr_model.specs.Limits.{max_cycles, max_blocks, block_count};
 ghost use Rattle.unroll.specs.Bits.{is_set, is_cycle};
 ghost use Rattle.unroll.specs.Problem.{IsProblem, chunks_in, blocks_in, block_at, sig_at, chunk_at, is_target, IsInside};
 ghost use Rattle.unroll.specs.Tasks.{task_at, goes_on_from};
@@ -52,7 +52,7 @@ impl<'n> Problem<'n> {
     pub fn new(net: &'n Netlist, cycles: u32) -> Problem<'n>
         requires some_cycles { 1 ≤ cycles }
         requires few_cycles { cycles ≤ max_cycles }
-        requires few_blocks { blocks_in (record { circuit = net.now; cycles = cycles }) ≤ max_blocks }
+        requires few_blocks { block_count (length net.now.drivers) cycles ≤ max_blocks }
         ensures { result ≡ record { circuit = net.now; cycles = cycles } }
     {
         let chunks = cycles.div_ceil(64);
