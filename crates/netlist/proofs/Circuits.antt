@@ -4,6 +4,7 @@ use Rattle.std.specs.List.{All, AllPairs, Contains, find, flat_map, slice_get}
 use Rattle.std.proofs.lemmas.Bool.{cases_Bool, cond-true, cond-false}
 use Rattle.std.proofs.lemmas.List.{length-map, get_or-map}
 use Rattle.std.proofs.lemmas.List.Elements.{All-map, All-nil, All-contains, Contains-append_left, Contains-append_right, Contains-append_cases, Contains-get_or}
+use Rattle.sr_model.specs.Limits.{max_pins, max_signals}
 use Rattle.sr_model.specs.declared.cells.Sig.{Sig}
 use Rattle.sr_model.specs.Declaration.{Declaration, InputNamed, OutputNamed, DriverNamed}
 use Rattle.sr_model.specs.Netlist.{Driver, Input}
@@ -230,8 +231,8 @@ statements_give_circuits ds all netlist = record {
   one_name_each = sym (all_long ds);
   are_names = all_names ds all;
   distinct = one_number ds;
-  few_signals = let few : length (names_of ds) ≤ 65536 = netlist.0.few_signals in omega (arith, all_long ds);
-  few_pins = let few : length (flat_map pin_names ds) ≤ 1048576 = netlist.0.few_pins in omega (arith, pins_stated ds);
+  few_signals = let few : length (names_of ds) ≤ max_signals = netlist.0.few_signals in omega (arith, all_long ds);
+  few_pins = let few : length (flat_map pin_names ds) ≤ max_pins = netlist.0.few_pins in omega (arith, pins_stated ds);
   wired = all_wired ds;
   pin_counts = all_pin_counts ds all;
   no_loop = netlist.1;

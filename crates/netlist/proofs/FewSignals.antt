@@ -7,9 +7,10 @@ use Rattle.std.proofs.lemmas.List.Sums.{length-filter, sum_by-cons}
 use Rattle.std.specs.List.{list_any}
 use Rattle.sr_model.specs.declared.cells.Sig.{Sig}
 use Rattle.sr_model.specs.declared.gates.Kind.{Kind}
-use Rattle.sr_model.specs.declared.gates.Kind.TheVariants.{And, Nand, Or, Nor, Xor, Xnor, Not, Buf, Dff}
 use Rattle.sr_model.specs.Gate.{IsPinCount}
 use Rattle.sr_model.specs.Netlist.{Driver, Input, Driven}
+use Rattle.sr_model.specs.Limits.{max_gate_pins, max_gate_signals}
+use Rattle.sr_model.proofs.lemmas.Laws.{some_pins}
 use Rattle.netlist.specs.Wiring.{driver_at, has_signal, signals_below, signals_of, pins_of, HasPinCount, HasPinCounts}
 
 abbrev sig : ℕ → Sig
@@ -76,17 +77,6 @@ count-pins (pin ∷ pins) n =
       count-one (λ s. eqb pin.0 s.0) pin.0 n (λ s e. sym (eqb-true pin.0 s.0 e)),
     )
 
-most-pins : (kind : Kind) (n : ℕ) → IsPinCount kind n → n ≤ 1024
-most-pins Not n h = omega (arith, h)
-most-pins Buf n h = omega (arith, h)
-most-pins Dff n h = omega (arith, h)
-most-pins And n h = h.1
-most-pins Nand n h = h.1
-most-pins Or n h = h.1
-most-pins Nor n h = h.1
-most-pins Xor n h = h.1
-most-pins Xnor n h = h.1
-
 count-signals : (driver : Driver) (t : Sig) (n : ℕ) → count_by (has_signal driver t) (signals_below n) ≤ length (pins_of driver) + 1
 count-signals Input t n = omega (arith, count-nothing (signals_below n))
 count-signals (Driven kind pins) t n =
@@ -102,11 +92,10 @@ pub signals-pins : (drivers : List Driver) (t : Sig) → length (signals_of driv
 signals-pins drivers t =
     omega (arith, length-filter (has_signal (driver_at drivers t.0) t) (signals_below (length drivers)), count-signals (driver_at drivers t.0) t (length drivers))
 
-most-of-driver : (driver : Driver) → HasPinCount driver → length (pins_of driver) ≤ 1024
+most-of-driver : (driver : Driver) → HasPinCount driver → length (pins_of driver) ≤ max_gate_pins
 most-of-driver Input h = omega arith
-most-of-driver (Driven kind pins) h = most-pins kind (length pins) h
+most-of-driver (Driven kind pins) h = (some_pins kind (length pins) h).1
 
--- at most 1,024 pins
-pub few_signals : (drivers : List Driver) (t : Sig) → t.0 < length drivers → HasPinCounts drivers → length (signals_of drivers t) ≤ 1025
+pub few_signals : (drivers : List Driver) (t : Sig) → t.0 < length drivers → HasPinCounts drivers → length (signals_of drivers t) ≤ max_gate_signals
 few_signals drivers t h counts =
     omega (arith, signals-pins drivers t, most-of-driver (driver_at drivers t.0) (All-get_or HasPinCount drivers t.0 Input h counts))

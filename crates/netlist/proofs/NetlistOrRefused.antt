@@ -5,6 +5,7 @@ use Rattle.std.proofs.lemmas.Bool.{cases_Bool, cases_lt}
 use Rattle.std.proofs.lemmas.List.{append-nil, length-map}
 use Rattle.std.proofs.lemmas.List.Elements.{All-nil, All-cons}
 use Rattle.std.proofs.lemmas.Option.{slice_get-get_or}
+use Rattle.sr_model.specs.Limits.{max_pins, max_signals}
 use Rattle.sr_model.specs.declared.cells.Sig.{Sig}
 use Rattle.sr_model.specs.Declaration.{Declaration}
 use Rattle.sr_model.specs.Room.{WithRoom}
@@ -34,10 +35,10 @@ first_broken Rule test before (d ∷ after) keeps =
     ]
 
 test_signals : IsTested HasFewSignals
-test_signals ds = elim (cases_lt 65536 (length (names_of ds))) [ inl many ↦ inr (λ few. omega arith) | inr few ↦ inl few ]
+test_signals ds = elim (cases_lt max_signals (length (names_of ds))) [ inl many ↦ inr (λ few. omega arith) | inr few ↦ inl few ]
 
 test_pins : IsTested HasFewPins
-test_pins ds = elim (cases_lt 1048576 (length (flat_map pin_names ds))) [ inl many ↦ inr (λ few. omega arith) | inr few ↦ inl few ]
+test_pins ds = elim (cases_lt max_pins (length (flat_map pin_names ds))) [ inl many ↦ inr (λ few. omega arith) | inr few ↦ inl few ]
 
 apart_or_not : (names : List (List ℕ)) → IsApart names ⊎ (AllPairs (λ a b. a ≢ b) names → ⊥)
 apart_or_not [] = inl tt

@@ -12,10 +12,11 @@ use Rattle.sr_model.specs.Declaration.{Declaration, InputNamed, OutputNamed, Dri
 use Rattle.sr_model.specs.Room.{WithRoom}
 use Rattle.sr_model.specs.Gate.{IsPinCount}
 use Rattle.sr_model.specs.declared.gates.Kind.{Kind}
-use Rattle.sr_model.specs.declared.gates.Kind.TheVariants.{Not, Buf, Dff}
 use Rattle.sr_model.specs.declared.statements.Statement.{Statement}
 use Rattle.sr_model.specs.declared.statements.Statement.TheVariants.{Input, OutputOf, Drive}
 use Rattle.sr_model.proofs.lemmas.Members.{not_in_nil, Contains-here, Contains-there, Contains-cases, All-from_Contains}
+use Rattle.sr_model.specs.Limits.{max_gate_pins}
+use Rattle.sr_model.proofs.lemmas.Laws.{some_pins}
 use Rattle.netlist.specs.Numbering.{once, mentions, input_name, output_name, driven_name, pin_names, names_of, HasPinCount, IsSignalName, IsStatement}
 use Rattle.netlist.specs.Checks.{without_lines, FirstBreaksAt}
 use Rattle.netlist.proofs.Once.{has, has-once, has-from_Contains, Contains-from_has, once-append_once}
@@ -122,13 +123,10 @@ pub stated_holds : (P : Declaration → Type 0) (items : List Numbered) (i : ℕ
 stated_holds P items i x at all =
     subst P (get_or-map stated_by items i x (stated_by x) at.within ∙ ap stated_by (sym at.read)) (all i (stated_by x) (omega (arith, at.within, length-map items stated_by)))
 
-pub pins_few : (d : Declaration) → HasPinCount d → length (pin_names d) ≤ 1024
+pub pins_few : (d : Declaration) → HasPinCount d → length (pin_names d) ≤ max_gate_pins
 pins_few (InputNamed name) h = omega arith
 pins_few (OutputNamed name) h = omega arith
-pins_few (DriverNamed target Not pins) h = omega arith
-pins_few (DriverNamed target Buf pins) h = omega arith
-pins_few (DriverNamed target Dff pins) h = omega arith
-pins_few (DriverNamed target _ pins) h = omega arith
+pins_few (DriverNamed target kind pins) h = (some_pins kind (length pins) h).1
 
 -- the front, with the pins of one more statement
 pub pins_front : (items : List Numbered) (i : ℕ) (x : Numbered) → StandsAt items i x → length (flat_map pin_names (take (i + 1) (map stated_by items))) ≡ length (flat_map pin_names (take i (map stated_by items))) + length (pin_names (stated_by x))

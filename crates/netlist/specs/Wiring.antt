@@ -2,9 +2,8 @@
 use Rattle.std.specs.Prelude.{ℕ, ◌%◌, ◌<◌, ◌==◌, ◌&&◌, ◌||◌, ⊤, Bool, true, false, not, List, [], length, map, Option, Some, None, slice_index_or}
 use Rattle.std.specs.List.{All, filter, list_any, count_by, range_with_len, sum_by}
 use Rattle.sr_model.specs.declared.gates.Kind.{Kind}
-use Rattle.sr_model.specs.declared.gates.Kind.TheVariants.{Dff}
 use Rattle.sr_model.specs.declared.cells.Sig.{Sig}
-use Rattle.sr_model.specs.Gate.{IsPinCount}
+use Rattle.sr_model.specs.Gate.{is_flip_flop_kind, IsPinCount}
 use Rattle.sr_model.specs.Netlist.{Driver, Input, Driven}
 
 -- what drives signal s
@@ -28,14 +27,12 @@ pin_sum drivers = sum_by (λ driver. length (pins_of driver)) drivers
 -- driven by a flip-flop
 abbrev pub is_flip_flop : Driver → Bool
 is_flip_flop Input = false
-is_flip_flop (Driven Dff pins) = true
-is_flip_flop (Driven _ pins) = false
+is_flip_flop (Driven kind pins) = is_flip_flop_kind kind
 
 -- driven by a gate
 abbrev pub is_gate : Driver → Bool
 is_gate Input = false
-is_gate (Driven Dff pins) = false
-is_gate (Driven _ pins) = true
+is_gate (Driven kind pins) = not (is_flip_flop_kind kind)
 
 -- the signals with numbers below n, ascending
 abbrev pub signals_below : ℕ → List Sig

@@ -1,11 +1,10 @@
 //! Why a netlist is refused, and what is asked of its statements.
 ghost use Rattle.std.specs.Prelude.{◌↔◌, All, IsTrue, length};
 ghost use Rattle.sr_model.specs.Declaration.{declared, declaration_of};
-ghost use Rattle.sr_model.specs.Gate.{IsPinCount};
 ghost use Rattle.sr_model.specs.Room.{texts};
 ghost use Rattle.netlist.specs.Numbering.{IsSignalName, IsStatement};
 
-use sr_model::{Bytes, Kind, Names, NoMemory, Statement, Statements};
+use sr_model::{Bytes, Names, NoMemory, Statement, Statements};
 use sr_text::name_ok;
 
 /// Why the statements of a text are no netlist.
@@ -54,9 +53,7 @@ fn is_statement(statement: &Statement) -> bool
     match statement {
         Statement::Input(name) | Statement::OutputOf(name) => is_signal_name(name.as_slice()),
         Statement::Drive { target, kind, pins } => {
-            may_have(*kind, pins.len())
-                && is_signal_name(target.as_slice())
-                && are_signal_names(pins)
+            kind.may_have(pins.len()) && is_signal_name(target.as_slice()) && are_signal_names(pins)
         }
     }
 }
@@ -76,13 +73,4 @@ fn is_signal_name(name: &[u8]) -> bool
     ensures { IsTrue result ↔ IsSignalName name.now }
 {
     name.len() <= 255 && name_ok(name)
-}
-
-fn may_have(kind: Kind, pins: usize) -> bool
-    ensures { IsTrue result ↔ IsPinCount kind pins }
-{
-    match kind {
-        Kind::Not | Kind::Buf | Kind::Dff => pins == 1,
-        _ => pins >= 1 && pins <= 1024,
-    }
 }

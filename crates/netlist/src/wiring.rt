@@ -26,7 +26,7 @@ impl Node {
     fn is_flip_flop(&self) -> bool
         ensures { (pins : List AnySig) → result ≡ is_flip_flop (driver_of pins self.now) }
     {
-        matches!(self.kind, Some(Kind::Dff))
+        self.kind.is_some_and(|kind| kind.is_flip_flop())
     }
 }
 

@@ -2,6 +2,9 @@
 use Rattle.std.proofs.Common.{◌≡◌, ◌⊎◌, ℕ, ◌+◌, ◌≤◌, Bool, true, false, List, [], ◌∷◌, length, map, arith, inl, inr, sym, subst, refl, ◌∙◌}
 use Rattle.std.specs.List.{Contains}
 use Rattle.std.proofs.lemmas.Bool.{true≢false, false≢true, cases_Bool}
+use Rattle.std.proofs.lemmas.List.{length-map}
+use Rattle.sr_model.specs.declared.gates.Family.{Family}
+use Rattle.sr_model.specs.declared.gates.Family.TheVariants.{AndLike, Parity}
 use Rattle.sr_model.specs.declared.gates.Kind.{Kind}
 use Rattle.sr_model.specs.declared.gates.Kind.TheVariants.{And, Nand, Or, Nor, Xor, Xnor, Not, Buf, Dff}
 use Rattle.sr_model.specs.declared.cells.Sig.{Sig}
@@ -9,8 +12,9 @@ use Rattle.sr_model.specs.declared.cells.Cell.{Cell}
 use Rattle.sr_model.specs.declared.cells.Lit.{Lit}
 use Rattle.sr_model.specs.declared.cells.Place.{Place}
 use Rattle.sr_model.specs.AndLike.{IsAndLike}
-use Rattle.sr_model.specs.Gate.{IsPinCount}
-use Rattle.sr_model.specs.Netlist.{Instance, cells_of, cell_at}
+use Rattle.sr_model.specs.Gate.{family_of, IsPinCount}
+use Rattle.sr_model.specs.Netlist.{Instance, cells_of, cell_at, delay}
+use Rattle.sr_model.specs.KindLaws.{IsOfFamily}
 use Rattle.sr_model.specs.Closure.{Forces, passing, lit}
 use Rattle.sr_model.specs.Worked.{nothing}
 use Rattle.sr_model.specs.XorLike.{is_odd, IsXorLike}
@@ -22,6 +26,7 @@ use Rattle.sr_model.proofs.OddCells.{target_odd, pin_odd}
 use Rattle.sr_model.proofs.OddPins.{AllEven, IsApartFrom, all_even-from, all_even-cells}
 use Rattle.sr_model.proofs.XorLike.{XorForces, is_odd-member, xor_forces}
 use Rattle.sr_model.proofs.XorChoice.{xor_lone-exact, no_others}
+use Rattle.sr_model.proofs.KindLaws.{has_its_family, some_pins}
 use Rattle.sr_model.proofs.Families.{and_family, nand_family, or_family, nor_family, not_family, buf_family, dff_family, xor_family, xnor_family}
 
 -- an and-like gate with a pin forces nothing from nothing
@@ -73,6 +78,9 @@ has_pin cycle [] some = let wrong : ⊥ = omega arith in absurd wrong
 has_pin cycle (pin ∷ pins) some = (cell_at cycle pin, Contains-here (cell_at cycle pin) (map (cell_at cycle) pins))
 
 -- the kind's gate has the parity of its pins, or the other bit
+abbrev pub HasParity : Kind → Type 0
+HasParity kind = (inverted : Bool) × (family_of kind ≡ Parity inverted)
+
 abbrev pub IsParity : Kind → Type 0
 IsParity kind = (kind ≡ Xor) ⊎ (kind ≡ Xnor)
 
@@ -81,6 +89,27 @@ module _ (pins : List Sig) (p : Place) where
   and_none kind a t and_like apart some l f =
       let pin : (c : Cell) × Contains (map (cell_at p.cycle) pins) c = has_pin p.cycle pins some in
       and_forces_nothing a t (instance_of kind pins p) and_like apart pin.0 pin.1 l f
+
+  of_family : (kind : Kind) → IsPinCount kind (length pins) → IsOfFamily (family_of kind) (instance_of kind pins p)
+  of_family kind count = has_its_family (instance_of kind pins p) (subst (IsPinCount kind) (sym (length-map pins (cell_at p.cycle))) count)
+
+  from_family : (kind : Kind) (family : Family) → family_of kind ≡ family → IsOfFamily family (instance_of kind pins p) → IsApartFrom kind pins p → 1 ≤ length pins
+      → (l : Lit) → Forces (instance_of kind pins p) (passing nothing) l → HasParity kind × AllEven pins
+  from_family kind (AndLike a t) e and_like apart some l f = absurd (and_none kind a t and_like apart some l f)
+  from_family kind (Parity inverted) e xor_like apart some l f =
+      ((inverted, e), all_even-from p.cycle pins (xor_forces_nothing inverted (instance_of kind pins p) xor_like apart l f))
+
+  -- only a parity gate forces something from nothing, and only where each signal stands an even number of times
+  pub nothing_forced : (kind : Kind) → IsPinCount kind (length pins) → IsApartFrom kind pins p → (l : Lit) → Forces (instance_of kind pins p) (passing nothing) l
+      → HasParity kind × AllEven pins
+  nothing_forced kind count apart l f = from_family kind (family_of kind) refl (of_family kind count) apart (some_pins kind (length pins) count).0 l f
+
+  -- conversely such a gate forces its target, whatever is known
+  pub even_forces : (kind : Kind) (inverted : Bool) → family_of kind ≡ Parity inverted → IsPinCount kind (length pins) → IsApartFrom kind pins p → AllEven pins
+      → (known : Lit → Bool) → Forces (instance_of kind pins p) (passing known) (lit (cell_at (p.cycle + delay kind) p.target) inverted)
+  even_forces kind inverted e count apart even known =
+      let xor_like : IsXorLike inverted (instance_of kind pins p) = subst (λ family. IsOfFamily family (instance_of kind pins p)) e (of_family kind count) in
+      xor_forces_target inverted (instance_of kind pins p) xor_like apart (all_even-cells p.cycle pins even) known
 
   -- only a parity gate forces something from nothing, and only where each signal stands an even number of times
   pub forces_nothing : (kind : Kind) → IsPinCount kind (length pins) → IsApartFrom kind pins p → (l : Lit) → Forces (instance_of kind pins p) (passing nothing) l

@@ -9,6 +9,7 @@ mod Families
 mod FirstClash
 mod Forcing
 mod FromNothing
+mod KindLaws
 mod Missed
 mod OddCells
 mod OddCounts

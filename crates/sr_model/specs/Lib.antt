@@ -4,6 +4,7 @@ pub mod Decisions
 pub mod Declaration
 pub mod Dump
 pub mod Gate
+pub mod KindLaws
 pub mod Laws
 pub mod Limits
 pub mod Netlist

@@ -2,12 +2,11 @@
 use Rattle.std.specs.Prelude.{ℕ, ◌≡◌, ◌+◌, Bool, List, ◌∷◌, map, Option, Some, None, if◌then◌else◌, nat_lt, slice_index_or}
 use Rattle.std.specs.List.{All}
 use Rattle.sr_model.specs.declared.gates.Kind.{Kind}
-use Rattle.sr_model.specs.declared.gates.Kind.TheVariants.{Dff}
 use Rattle.sr_model.specs.declared.cells.Sig.{Sig}
 use Rattle.sr_model.specs.declared.cells.Cell.{Cell}
 use Rattle.sr_model.specs.declared.cells.Lit.{Lit}
 use Rattle.sr_model.specs.declared.cells.Place.{Place}
-use Rattle.sr_model.specs.Gate.{value}
+use Rattle.sr_model.specs.Gate.{value, is_flip_flop_kind}
 
 -- what drives a signal: an input of the chip, or a gate or flip-flop with these pins
 pub data Driver : Type 0 where
@@ -24,8 +23,7 @@ cell_at cycle sig = record { cycle = cycle; sig = sig }
 
 -- how many cycles the target's cell is after the pins'
 abbrev pub delay : Kind → ℕ
-delay Dff = 1
-delay _ = 0
+delay kind = if is_flip_flop_kind kind then 1 else 0
 
 -- one gate or flip-flop in one cycle: the target's cell, and the pins' as often as they stand
 pub record Instance : Type 0 where

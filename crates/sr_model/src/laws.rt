@@ -3,6 +3,7 @@
 //! A law speaks of every netlist, every number of cycles and every set of literals that a test gives.
 ghost use Rattle.sr_model.specs.Laws.{IsSound, HasBase, ClosureIsClosed, IsLeast, IsMonotone, IsUnionOfLevels, ContradictionExcludes, KnownIsSound, ForcedStaysBetween, ClosedBetweenIsAll, SameClosure, StableLevel, ForcedByCells, ForcedGrows};
 ghost use Rattle.sr_model.specs.Decisions.{ClosureIsATest, ClashOrNone, DumpClashOrNone};
+ghost use Rattle.sr_model.specs.KindLaws.{HasItsFamily, HasSomePins, PinCountIsDecided, FlipFlopIsDff};
 ghost use Rattle.sr_model.specs.Worked.{RestoresR, RulesMissO};
 
 /// The closure of a set of literals has the set, is closed, and is the least such set; it grows with the set, and is the union of the levels.
@@ -43,6 +44,14 @@ pub fn decision_laws()
     ensures closure { ClosureIsATest }
     ensures clash { ClashOrNone }
     ensures dump { DumpClashOrNone }
+{}
+
+/// What holds of each kind: how its target follows from its pins, and how many pins it may have.
+pub fn kind_laws()
+    ensures family { HasItsFamily }
+    ensures some_pins { HasSomePins }
+    ensures decided { PinCountIsDecided }
+    ensures flip_flop { FlipFlopIsDff }
 {}
 
 /// A record `q x1` restores `r` in cycle 1, through two gates in cycle 0.

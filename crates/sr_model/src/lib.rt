@@ -13,10 +13,10 @@ mod statements;
 mod tests;
 
 pub use cells::{Cell, Lit, Place, Sig};
-pub use gates::{Kind, eval};
+pub use gates::{Family, Kind, eval};
 pub use laws::{
-    closure_laws, decision_laws, forcing_laws, growing_laws, missed_example, soundness_laws,
-    worked_example,
+    closure_laws, decision_laws, forcing_laws, growing_laws, kind_laws, missed_example,
+    soundness_laws, worked_example,
 };
 pub use limits::{
     MAX_BLOCKS, MAX_CYCLES, MAX_GATE_PINS, MAX_GATE_SIGNALS, MAX_PINS, MAX_SIGNALS, block_count,

@@ -2,6 +2,7 @@ use Rattle.std.proofs.Common.{◌≡◌, ◌<◌, ◌≤◌, arith, List, length
 use Rattle.std.proofs.lemmas.Result.{err_from_is_err_and}
 use Rattle.std.specs.List.{All, flat_map}
 use Rattle.std.proofs.lemmas.List.{length-map}
+use Rattle.sr_model.specs.Limits.{max_pins, max_signals}
 use Rattle.sr_model.specs.declared.cells.Sig.{Sig}
 use Rattle.sr_model.specs.Declaration.{Declaration, declared, declarations_of}
 use Rattle.netlist.specs.Checks.{without_lines, HasFewSignals, HasFewPins, IsDrivenOnce}
@@ -47,12 +48,12 @@ pub returns-clause-signals : goal.returns-clause-signals
 returns-clause-signals c =
     let long = all_long (declared c.args.s.now) c.in_ok-mentions.mentions.names c.in_ok-driven.driven.items c.in_ok-mentions.ensures.names c.in_ok-driven.ensures.drivers c.in_ok-settle.field-0.items
     (c.in_ok-settle.ensures.ok ∙ c.as_slice.ensures.value) in
-    (ap length c.into_vec-nodes.ensures ∙ long, subst (λ ns. length ns ≤ 65536) (sym c.in_ok-mentions.ensures.names) c.in_ok-mentions.ensures.few)
+    (ap length c.into_vec-nodes.ensures ∙ long, subst (λ ns. length ns ≤ max_signals) (sym c.in_ok-mentions.ensures.names) c.in_ok-mentions.ensures.few)
 
 pub returns-clause-pins : goal.returns-clause-pins
 returns-clause-pins c =
     let pins : c.in_ok-mentions.mentions.pins.items ≡ pins_of (declared c.args.s.now) = c.in_ok-mentions.ensures.pins in
-    subst (λ (xs : List Sig). (length xs ≤ 1048576) × All (λ pin. pin.0 < length c.in_ok-mentions.mentions.names) xs) (sym pins) (
+    subst (λ (xs : List Sig). (length xs ≤ max_pins) × All (λ pin. pin.0 < length c.in_ok-mentions.mentions.names) xs) (sym pins) (
       omega (arith, c.in_ok-check_pins.ensures.few, length-map (flat_map pin_names (declared c.args.s.now)) (sig_of (declared c.args.s.now))),
       pins_below (declared c.args.s.now) c.in_ok-mentions.mentions.names c.in_ok-mentions.ensures.names,
     )

@@ -2,6 +2,7 @@ use Rattle.std.proofs.Common.{◌≡◌, ◌+◌, ◌≤◌, ℕ, List, [], ◌�
 use Rattle.std.specs.Prelude.{OnOk}
 use Rattle.std.proofs.lemmas.List.{length-map}
 use Rattle.std.proofs.lemmas.Result.{on_ok_weaker}
+use Rattle.sr_model.specs.Limits.{max_gate_pins}
 use Rattle.sr_model.specs.Room.{texts}
 use Rattle.sr_model.specs.Declaration.{declaration_of}
 use Rattle.sr_model.specs.declared.cells.Sig.{Sig}
@@ -14,7 +15,7 @@ use Rattle.netlist.proofs.names.NameTable.add_mentions.Goals as goal
 pub add_all-requires : goal.add_all-requires
 add_all-requires c =
     let one : length (once (c.args.self.now ++ c.as_slice.result.now ∷ [])) ≤ length c.args.self.now + 1 = once-one c.args.self.now c.as_slice.result.now in
-    let few : length (pin_names (declaration_of c.args.statement.now)) ≤ 1024 = c.requires.pins in
+    let few : length (pin_names (declaration_of c.args.statement.now)) ≤ max_gate_pins = c.requires.pins in
     let pins : length (pin_names (declaration_of c.args.statement.now)) ≡ length c.in-Drive.names.items = ap (λ s. length (pin_names (declaration_of s))) c.in-Drive.is ∙ length-map c.in-Drive.names.items (λ name. name.items) in
     omega (arith, one, few, pins, ap length c.in_ok-first-in-Drive.ensures.ok, c.requires.few)
 
