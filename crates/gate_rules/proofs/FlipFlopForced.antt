@@ -1,21 +1,23 @@
 -- What a flip-flop forces: an instance has one bit for its data pin's cell and its own cell one cycle later, and so the task of a chunk.
-use Rattle.std.proofs.Common.{ℕ, ◌≡◌, ◌+◌, ◌/◌, ◌%◌, ◌<◌, ◌⊎◌, ◌↔◌, Bool, true, false, List, [], ◌∷◌, arith, inl, inr, refl, sym, ap, ◌∙◌, subst}
+use Rattle.std.proofs.Common.{ℕ, ◌≡◌, ◌+◌, ◌/◌, ◌%◌, ◌<◌, ◌⊎◌, ◌↔◌, Bool, true, false, List, [], ◌∷◌, length, get_or, arith, inl, inr, refl, sym, ap, ◌∙◌, subst}
 use Rattle.std.specs.List.{Contains}
 use Rattle.std.proofs.lemmas.Bool.{true≢false}
 use Rattle.std.proofs.lemmas.List.Elements.{All-get_or}
 use Rattle.sr_model.specs.declared.gates.Kind.{Kind}
-use Rattle.sr_model.specs.declared.gates.Kind.TheVariants.{And, Nand, Or, Nor, Xor, Xnor, Not, Buf, Dff}
+use Rattle.sr_model.specs.declared.gates.Kind.TheVariants.{Dff}
 use Rattle.sr_model.specs.declared.cells.Sig.{Sig}
 use Rattle.sr_model.specs.declared.cells.Cell.{Cell}
 use Rattle.sr_model.specs.declared.cells.Lit.{Lit}
 use Rattle.sr_model.specs.declared.cells.Place.{Place}
 use Rattle.sr_model.specs.AndLike.{IsAndLike}
+use Rattle.sr_model.specs.Gate.{IsPinCount}
 use Rattle.sr_model.specs.Netlist.{Driver, Input, Driven, Instance, cell_at, delay}
 use Rattle.sr_model.specs.Closure.{Forces, passing, lit}
 use Rattle.sr_model.proofs.lemmas.Instances.{Stands, stands, stands-at, instance_of}
+use Rattle.sr_model.proofs.lemmas.Laws.{flip_flop-dff, has_its_family}
 use Rattle.sr_model.proofs.lemmas.Members.{not_in_nil, Contains-here, Contains-cases}
 use Rattle.sr_model.proofs.lemmas.Cells.{cell_eq, cell_eq-itself}
-use Rattle.sr_model.proofs.lemmas.AndRules.{target_t-exact, target_other-exact, pin_p-exact, pin_other-exact, dff_family}
+use Rattle.sr_model.proofs.lemmas.AndRules.{target_t-exact, target_other-exact, pin_p-exact, pin_other-exact}
 use Rattle.sr_model.proofs.lemmas.ParityRules.{dff_apart}
 use Rattle.netlist.specs.Wiring.{driver_at, is_flip_flop, HasPinCount}
 use Rattle.unroll.specs.Bits.{is_set}
@@ -25,20 +27,17 @@ use Rattle.unroll.proofs.lemmas.Laws.{block-sig, block-chunk}
 use Rattle.gate_rules.specs.Forced.{ForcedInCycles}
 use Rattle.gate_rules.specs.FlipFlopBits.{data_pin}
 
+one-pin : (pins : List Sig) → length pins ≡ 1 → pins ≡ get_or pins 0 (record { 0 = 0 }) ∷ []
+one-pin [] one = absurd (omega arith)
+one-pin (pin ∷ []) one = refl
+one-pin (pin ∷ next ∷ pins) one = absurd (omega arith)
+
 -- a flip-flop's driver has one pin
 pub flip_flop-driver : (d : Driver) → is_flip_flop d ≡ true → HasPinCount d → d ≡ Driven Dff (data_pin d ∷ [])
 flip_flop-driver Input e h = absurd (true≢false (sym e))
-flip_flop-driver (Driven Dff []) e h = absurd (omega arith)
-flip_flop-driver (Driven Dff (pin ∷ [])) e h = refl
-flip_flop-driver (Driven Dff (pin ∷ next ∷ pins)) e h = absurd (omega arith)
-flip_flop-driver (Driven And pins) e h = absurd (true≢false (sym e))
-flip_flop-driver (Driven Nand pins) e h = absurd (true≢false (sym e))
-flip_flop-driver (Driven Or pins) e h = absurd (true≢false (sym e))
-flip_flop-driver (Driven Nor pins) e h = absurd (true≢false (sym e))
-flip_flop-driver (Driven Xor pins) e h = absurd (true≢false (sym e))
-flip_flop-driver (Driven Xnor pins) e h = absurd (true≢false (sym e))
-flip_flop-driver (Driven Not pins) e h = absurd (true≢false (sym e))
-flip_flop-driver (Driven Buf pins) e h = absurd (true≢false (sym e))
+flip_flop-driver (Driven kind pins) e h =
+    let is : kind ≡ Dff = flip_flop-dff kind e in
+    ap (λ k. Driven k pins) is ∙ ap (Driven Dff) (one-pin pins (subst (λ k. IsPinCount k (length pins)) is h))
 
 -- so has that of a problem
 pub problem-driver : (u : Unrolling) → IsProblem u → (target : Sig) → target.0 < signals_in u → is_flip_flop (driver_at u.circuit.drivers target.0) ≡ true
@@ -48,7 +47,7 @@ problem-driver u is target within e =
 
 module _ (pin : Sig) (p : Place) (known : Lit → Bool) where
   and_like : IsAndLike true true (instance_of Dff (pin ∷ []) p)
-  and_like = dff_family (pin ∷ []) p refl
+  and_like = has_its_family (instance_of Dff (pin ∷ []) p) refl
 
   lone : (c : Cell) → Contains (cell_at p.cycle pin ∷ []) c → cell_at p.cycle pin ≡ c
   lone c h = elim (Contains-cases (cell_at p.cycle pin) [] c h) [ inl e ↦ e | inr none ↦ absurd (not_in_nil c none) ]

@@ -5,16 +5,19 @@ use Rattle.std.specs.List.{Contains}
 use Rattle.std.proofs.lemmas.Bool.{cases_Bool, and_parts, and_from, ltb-true, lt-ltb, true≢false}
 use Rattle.std.proofs.lemmas.List.{length-map}
 use Rattle.sr_model.specs.declared.gates.Kind.{Kind}
+use Rattle.sr_model.specs.declared.gates.Family.{Family}
 use Rattle.sr_model.specs.declared.cells.Sig.{Sig}
 use Rattle.sr_model.specs.declared.cells.Cell.{Cell}
 use Rattle.sr_model.specs.declared.cells.Lit.{Lit}
 use Rattle.sr_model.specs.declared.cells.Place.{Place}
-use Rattle.sr_model.specs.Gate.{IsPinCount}
+use Rattle.sr_model.specs.Gate.{family_of, IsPinCount}
+use Rattle.sr_model.specs.KindLaws.{IsOfFamily}
 use Rattle.sr_model.specs.AndLike.{IsAndLike}
 use Rattle.sr_model.specs.XorLike.{IsXorLike, is_odd}
 use Rattle.sr_model.specs.Netlist.{Driven, Instance, cell_at, cells_of, delay}
 use Rattle.sr_model.specs.Closure.{Forces, passing, lit}
 use Rattle.sr_model.proofs.lemmas.Instances.{Stands, stands, stands-at, instance_of}
+use Rattle.sr_model.proofs.lemmas.Laws.{has_its_family}
 use Rattle.sr_model.proofs.lemmas.Members.{Contains-cases}
 use Rattle.sr_model.proofs.lemmas.ParityRules.{in_cycle}
 use Rattle.netlist.specs.Wiring.{driver_at, is_gate, pin_parities, signals_of}
@@ -80,6 +83,11 @@ module _ (u : Unrolling) (target : Sig) (chunk : ℕ) (early : chunk < chunks_in
       forces = f;
     };
   }
+
+-- each instance of a kind is of the family
+pub family-rule : (kind : Kind) (family : Family) → family ≡ family_of kind → (i : Instance) → i.kind ≡ kind → IsPinCount kind (length i.pins) → IsOfFamily family i
+family-rule kind family is i at count =
+    subst (λ f. IsOfFamily f i) (ap family_of at ∙ sym is) (has_its_family i (subst (λ k. IsPinCount k (length i.pins)) (sym at) count))
 
 -- the place of a block in a list of the same items
 pub place-within : (listed blocks : List Block) (k : ℕ) → listed ≡ blocks → k < length listed → k < length blocks

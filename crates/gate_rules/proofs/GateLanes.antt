@@ -1,20 +1,20 @@
 -- A gate in one cycle of a chunk: what a bit of the words of its blocks says.
 use Rattle.std.proofs.Common.{ℕ, ◌≡◌, ◌≢◌, ◌+◌, ◌*◌, ◌/◌, ◌%◌, ◌<◌, ◌≤◌, ◌&&◌, ◌||◌, Bool, true, false, cond, eqb, ltb, List, [], ◌∷◌, Some, length, map, get_or, arith, inl, inr, refl, sym, ap, ◌∙◌, subst}
 use Rattle.std.specs.List.{AllPairs, Contains}
-use Rattle.std.proofs.lemmas.Bool.{cases_eq, cases_lt, and_parts, or_cases, eqb-true}
+use Rattle.std.proofs.lemmas.Bool.{cases_eq, cases_lt, and_parts, not-true, or_cases, eqb-true}
 use Rattle.std.proofs.lemmas.List.{get_or-map, get_or_default, length-map}
 use Rattle.std.proofs.lemmas.List.Elements.{Contains-get_or}
 use Rattle.std.proofs.lemmas.List.Kept.{AllPairs-filter}
 use Rattle.sr_model.specs.declared.gates.Kind.{Kind}
-use Rattle.sr_model.specs.declared.gates.Kind.TheVariants.{And, Nand, Or, Nor, Xor, Xnor, Not, Buf, Dff}
 use Rattle.sr_model.specs.declared.cells.Sig.{Sig}
 use Rattle.sr_model.specs.declared.cells.Cell.{Cell}
 use Rattle.sr_model.specs.declared.cells.Place.{Place}
-use Rattle.sr_model.specs.Gate.{IsPinCount}
+use Rattle.sr_model.specs.Gate.{is_flip_flop_kind}
 use Rattle.sr_model.specs.Netlist.{Driver, Input, Driven, cell_at, delay}
 use Rattle.sr_model.specs.Closure.{lit}
 use Rattle.sr_model.specs.XorLike.{is_odd}
 use Rattle.sr_model.proofs.lemmas.Instances.{instance_of}
+use Rattle.sr_model.proofs.lemmas.Laws.{some_pins}
 use Rattle.sr_model.proofs.lemmas.Members.{Contains-map, map-member, list_any-found}
 use Rattle.sr_model.proofs.lemmas.ParityRules.{cells_once, odd_cell-is}
 use Rattle.netlist.specs.Wiring.{driver_at, has_signal, is_driven, is_gate, is_flip_flop, is_odd_pin, kind_of, pins_of, pin_parities, reads, signals_below, signals_of}
@@ -25,7 +25,7 @@ use Rattle.unroll.specs.Bits.{is_set, is_cycle, word_for}
 use Rattle.unroll.specs.Problem.{Unrolling, IsProblem, signals_in, chunks_in, block_at, sig_at}
 use Rattle.unroll.specs.Tasks.{blocks_for, blocks_from}
 use Rattle.unroll.proofs.lemmas.Laws.{block-sig}
-use Rattle.unroll.proofs.lemmas.Tasks.{pin-count, blocks-ascend, has-itself, listed-signal, signal-block, signal-listed, delay-cases, pin-signal, pins-within}
+use Rattle.unroll.proofs.lemmas.Tasks.{pin-count, blocks-ascend, has-itself, listed-signal, signal-block, signal-listed, pin-signal, pins-within}
 use Rattle.unroll.proofs.lemmas.FlatMaps.{signals-ascend}
 use Rattle.gate_rules.specs.Lanes.{words_at_place, IsLane}
 use Rattle.gate_rules.specs.Forced.{words_of, view_has}
@@ -34,22 +34,10 @@ use Rattle.gate_rules.proofs.BlockPlaces.{words_of-place, flat_map-single}
 -- a gate is no flip-flop
 pub gate-settles : (d : Driver) → is_gate d ≡ true → is_flip_flop d ≡ false
 gate-settles Input e = refl
-gate-settles (Driven Dff pins) e = absurd cc
-gate-settles (Driven And pins) e = refl
-gate-settles (Driven Nand pins) e = refl
-gate-settles (Driven Or pins) e = refl
-gate-settles (Driven Nor pins) e = refl
-gate-settles (Driven Xor pins) e = refl
-gate-settles (Driven Xnor pins) e = refl
-gate-settles (Driven Not pins) e = refl
-gate-settles (Driven Buf pins) e = refl
+gate-settles (Driven kind pins) e = not-true (is_flip_flop_kind kind) e
 
 pub gate-delay : (kind : Kind) (pins : List Sig) → is_gate (Driven kind pins) ≡ true → delay kind ≡ 0
-gate-delay kind pins gate =
-    elim (delay-cases kind pins) [
-      | inl (later, one) ↦ let no_flip_flop : is_flip_flop (Driven kind pins) ≡ false = gate-settles (Driven kind pins) gate in absurd cc
-      | inr (same, none) ↦ none
-    ]
+gate-delay kind pins gate = ap (λ b. cond {A = ℕ} b 1 0) (gate-settles (Driven kind pins) gate)
 
 pub kind-driver : (d : Driver) (kind : Kind) → kind_of d ≡ Some kind → d ≡ Driven kind (pins_of d)
 kind-driver Input kind e = absurd cc
@@ -119,17 +107,6 @@ bit-is chunk i lane = omega (arith, lane)
 add-none : (n m : ℕ) → m ≡ 0 → n + m ≡ n
 add-none n m e = omega (arith, e)
 
-some-pin : (kind : Kind) (n : ℕ) → IsPinCount kind n → 0 < n
-some-pin And n h = h.0
-some-pin Nand n h = h.0
-some-pin Or n h = h.0
-some-pin Nor n h = h.0
-some-pin Xor n h = h.0
-some-pin Xnor n h = h.0
-some-pin Not n h = omega (arith, h)
-some-pin Buf n h = omega (arith, h)
-some-pin Dff n h = omega (arith, h)
-
 -- the place of bit i of a chunk, and the cells of the gate's signals there
 abbrev pub lane_place : Sig → ℕ → ℕ → Place
 lane_place target chunk i = record { cycle = 64 * chunk + i; target = target }
@@ -190,7 +167,7 @@ module _ (u : Unrolling) (is : IsProblem u) (target : Sig) (chunk : ℕ) (early 
   pub two-signals : 2 ≤ length signals
   two-signals =
       let first : Sig = get_or pins 0 target in
-      let some : 0 < length pins = some-pin kind (length pins) (pin-count u is kind pins (lane_place target chunk 0) driver) in
+      let some : 0 < length pins = (some_pins kind (length pins) (pin-count u is kind pins (lane_place target chunk 0) driver)).0 in
       let other : (j : ℕ) × (j < length signals) × (j ≢ k) × (get_or signals j first ≡ first) = pin-place first (Contains-get_or pins 0 target some) in
       let apart : other.0 ≢ k = other.2 in
       omega (arith, target-within, other.1, apart)

@@ -7,7 +7,6 @@ mod FlipFlopForced
 mod FlipFlopWords
 mod GateForced
 mod GateLanes
-mod KindRules
 mod LaneWords
 mod NewLiterals
 mod ParityExact

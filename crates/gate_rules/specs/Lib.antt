@@ -4,5 +4,4 @@ pub mod Forced
 pub mod Lanes
 pub mod Laws
 pub mod OddPlaces
-pub mod Rules
 pub mod Ticks

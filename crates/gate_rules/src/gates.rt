@@ -1,41 +1,16 @@
-//! What a gate forces in a chunk, by its kind.
+//! What a gate forces in a chunk, by the family of its kind.
 ghost use Rattle.std.specs.Prelude.{◌≡◌, ◌<◌, ◌≤◌, true, length, Some, slice_index_or};
 ghost use Rattle.std.specs.List.{Contains};
 ghost use Rattle.netlist.specs.Wiring.{driver_at, is_gate, kind_of};
 ghost use Rattle.unroll.specs.Problem.{IsInside};
 ghost use Rattle.unroll.specs.Tasks.{task_in, blocks_from};
 ghost use Rattle.gate_rules.specs.Forced.{IsForcedExactlyIn};
-ghost use Rattle.gate_rules.specs.Rules.{IsRuleOf};
 
 use crate::and_like::{AndLike, force_and_like};
 use crate::parity::force_parity;
 use netlist::Netlist;
-use sr_model::{Kind, Sig};
+use sr_model::{Family, Kind, Sig};
 use unroll::{Block, Blocks, InChunk, PinWords, Problem};
-
-/// How the target's bit follows from the pins' bits.
-#[derive(Clone, Copy)]
-enum Rule {
-    /// By whether all pins have one bit.
-    AndLike(AndLike),
-    /// It is the parity of the pins, or the other bit.
-    Parity { inverted: bool },
-}
-
-/// The rule of a kind.
-fn rule_of(kind: Kind) -> Rule
-    ensures { IsRuleOf kind result }
-{
-    let (pins, target) = match kind {
-        Kind::Xor => return Rule::Parity { inverted: false },
-        Kind::Xnor => return Rule::Parity { inverted: true },
-        Kind::And | Kind::Buf | Kind::Dff => (true, true),
-        Kind::Nand | Kind::Not => (true, false),
-        Kind::Or => (false, false),
-        Kind::Nor => (false, true),
-    };
-    Rule::AndLike(AndLike { pins, target })
-}
 
 /// The kind of the gate that drives a signal.
 fn gate_kind(net: &Netlist, target: Sig) -> Kind
@@ -84,9 +59,12 @@ pub(crate) fn force_gate(
     let net = p.net();
     let place = place_of(blocks.as_slice(), p.block(at.sig, at.chunk));
     let valid = p.valid_bits(at.chunk) & mask;
-    match rule_of(gate_kind(net, at.sig)) {
-        Rule::AndLike(gate) => force_and_like(gate, place, valid, view.as_slice(), out),
-        Rule::Parity { inverted } => {
+    match gate_kind(net, at.sig).family() {
+        Family::AndLike { pins, target } => {
+            let gate = AndLike { pins, target };
+            force_and_like(gate, place, valid, view.as_slice(), out);
+        }
+        Family::Parity { inverted } => {
             let odd = net.pin_parities(at.sig);
             force_parity(inverted, place, odd, valid, view.as_slice(), out);
         }

@@ -8,7 +8,6 @@ ghost use Rattle.gate_rules.specs.Ticks.{ticked};
 use crate::flip_flops::force_flip_flop;
 use crate::gates::force_gate;
 use crate::tally::Tally;
-use sr_model::Kind;
 use unroll::{Block, Blocks, InChunk, PinWords, Problem, Task};
 
 /// What a task forces from the literals that its blocks' words have, known literals among it: a bit of `out` is set exactly where its literal is forced at an
@@ -91,9 +90,10 @@ pub fn forced_in_cycles_in_chunk(
     ensures forced { IsForcedExactlyIn p.now (task_in p.now at) mask blocks.now.items view.now.items out.new.items }
     ensures later { HaveNoLaterBit p.now blocks.now.items out.new.items }
 {
-    match p.net().kind_of(at.sig) {
-        Some(Kind::Dff) => force_flip_flop(p, at, mask, blocks, view, out),
-        _ => force_gate(p, at, mask, blocks, view, out),
+    if p.is_flip_flop(at.sig) {
+        force_flip_flop(p, at, mask, blocks, view, out)
+    } else {
+        force_gate(p, at, mask, blocks, view, out)
     }
 }
 

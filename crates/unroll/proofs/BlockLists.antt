@@ -6,9 +6,10 @@ use Rattle.std.proofs.lemmas.List.{append-nil, take_more}
 use Rattle.std.proofs.lemmas.List.Elements.{All-filter, All-get_or}
 use Rattle.std.proofs.lemmas.List.Folds.{length-flat_map-take}
 use Rattle.std.proofs.lemmas.Grind.{flat_map-append}
-use Rattle.sr_model.specs.declared.gates.Kind.TheVariants.{And, Nand, Or, Nor, Xor, Xnor, Not, Buf, Dff}
 use Rattle.sr_model.specs.declared.cells.Sig.{Sig}
 use Rattle.sr_model.specs.Netlist.{Driver, Input, Driven}
+use Rattle.sr_model.specs.Gate.{IsPinCount}
+use Rattle.sr_model.proofs.lemmas.Laws.{flip_flop-dff}
 use Rattle.netlist.specs.Wiring.{driver_at, is_flip_flop, has_signal, pins_of, signals_below, signals_of, HasPinCount}
 use Rattle.netlist.proofs.lemmas.Signals.{few_signals, signals-pins, signals_within}
 use Rattle.unroll.specs.declared.problem.Block.{Block}
@@ -23,15 +24,7 @@ signals_of-within drivers t = All-filter (has_signal (driver_at drivers t.0) t) 
 -- a flip-flop has one pin
 one-pin : (d : Driver) → is_flip_flop d ≡ true → HasPinCount d → length (pins_of d) ≡ 1
 one-pin Input e h = cc
-one-pin (Driven Dff pins) e h = h
-one-pin (Driven And pins) e h = cc
-one-pin (Driven Nand pins) e h = cc
-one-pin (Driven Or pins) e h = cc
-one-pin (Driven Nor pins) e h = cc
-one-pin (Driven Xor pins) e h = cc
-one-pin (Driven Xnor pins) e h = cc
-one-pin (Driven Not pins) e h = cc
-one-pin (Driven Buf pins) e h = cc
+one-pin (Driven kind pins) e h = subst (λ k. IsPinCount k (length pins)) (flip_flop-dff kind e) h
 
 module _ (u : Unrolling) (target : Sig) (chunk : ℕ) where
   blocks : Sig → List Block

@@ -8,18 +8,21 @@ use Rattle.std.proofs.lemmas.List.{append-nil}
 use Rattle.std.proofs.lemmas.Grind.{flat_map-append}
 use Rattle.std.proofs.lemmas.List.Sums.{sum_by-cons}
 use Rattle.sr_model.specs.declared.gates.Kind.{Kind}
-use Rattle.sr_model.specs.declared.gates.Kind.TheVariants.{And, Nand, Or, Nor, Xor, Xnor, Not, Buf, Dff}
+use Rattle.sr_model.specs.declared.gates.Kind.TheVariants.{Dff}
+use Rattle.sr_model.specs.declared.gates.Family.{Family}
+use Rattle.sr_model.specs.declared.gates.Family.TheVariants.{AndLike, Parity}
 use Rattle.sr_model.specs.declared.cells.Sig.{Sig}
 use Rattle.sr_model.specs.declared.cells.Lit.{Lit}
 use Rattle.sr_model.specs.declared.cells.Place.{Place}
-use Rattle.sr_model.specs.Gate.{IsPinCount}
-use Rattle.sr_model.specs.Netlist.{Driver, Input, Driven, cell_at}
+use Rattle.sr_model.specs.Gate.{family_of, is_flip_flop_kind, IsPinCount}
+use Rattle.sr_model.specs.Netlist.{Driver, Input, Driven, cell_at, delay}
 use Rattle.sr_model.specs.Closure.{Forces, ForcesAt, passing, lit}
 use Rattle.sr_model.specs.Worked.{nothing}
 use Rattle.sr_model.proofs.lemmas.Instances.{Stands, stands, stands-at, instance_of}
+use Rattle.sr_model.proofs.lemmas.Laws.{flip_flop-dff}
 use Rattle.sr_model.proofs.lemmas.Members.{not_in_nil, Contains-here, Contains-there, Contains-map, map-member, list_all-at, list_all-from, list_any-from, list_any-found}
 use Rattle.sr_model.proofs.lemmas.ParityRules.{AllEven, IsApartFrom, apart_from_pins, dff_apart, odd_among}
-use Rattle.sr_model.proofs.lemmas.FromNothing.{IsParity, forces_nothing, xor_forces_even, xnor_forces_even}
+use Rattle.sr_model.proofs.lemmas.FromNothing.{HasParity, nothing_forced, even_forces}
 use Rattle.netlist.specs.Wiring.{driver_at, is_driven, is_gate, pins_of, kind_of, is_odd_pin, pin_parities, signals_below, signals_of, HasPinCount}
 use Rattle.netlist.proofs.lemmas.Signals.{signals_member, signal_within, own_pin}
 use Rattle.unroll.specs.declared.problem.Task.{Task}
@@ -47,20 +50,22 @@ listed-chunk n k (i, within, at) =
     omega (arith, place, at, below)
 
 -- the kinds whose target has the parity of the pins, or the other bit
-parity-kind : (kind : Kind) → is_parity kind ≡ true → IsParity kind
-parity-kind Xor e = inl refl
-parity-kind Xnor e = inr refl
-parity-kind And e = absurd (true≢false (sym e))
-parity-kind Nand e = absurd (true≢false (sym e))
-parity-kind Or e = absurd (true≢false (sym e))
-parity-kind Nor e = absurd (true≢false (sym e))
-parity-kind Not e = absurd (true≢false (sym e))
-parity-kind Buf e = absurd (true≢false (sym e))
-parity-kind Dff e = absurd (true≢false (sym e))
+parity-kind : (kind : Kind) → is_parity (family_of kind) ≡ true → HasParity kind
+parity-kind kind is = of (family_of kind) refl is where
+  of : (family : Family) → family_of kind ≡ family → is_parity family ≡ true → HasParity kind
+  of (Parity inverted) same e = (inverted, same)
+  of (AndLike pins target) same e = absurd (true≢false (sym e))
 
-kind-parity : (kind : Kind) → IsParity kind → is_parity kind ≡ true
-kind-parity kind (inl e) = ap is_parity e
-kind-parity kind (inr e) = ap is_parity e
+kind-parity : (kind : Kind) → HasParity kind → is_parity (family_of kind) ≡ true
+kind-parity kind parity = ap is_parity parity.1
+
+-- none of them is the flip-flop
+parity-delay : (kind : Kind) → HasParity kind → delay kind ≡ 0
+parity-delay kind parity =
+    elim (cases_Bool (is_flip_flop_kind kind)) [
+      | inl is ↦ let wrong : family_of Dff ≡ Parity parity.0 = ap family_of (sym (flip_flop-dff kind is)) ∙ parity.1 in cc
+      | inr gate ↦ ap (λ b. cond {A = ℕ} b 1 0) gate
+    ]
 
 -- what is not among the pins stands there no time
 none-among : (pins : List Sig) (s : ℕ) → (Contains pins (record { 0 = s }) → ⊥) → count_by (λ pin. eqb pin.0 s) pins ≡ 0
@@ -95,41 +100,30 @@ pub record Constant (d : Driver) : Type 0 where
   pub kind : Kind
   pub pins : List Sig
   pub driver : d ≡ Driven kind pins
-  pub parity : IsParity kind
+  pub parity : HasParity kind
   pub even : AllEven pins
 
 pub constant-is : (d : Driver) → is_constant d ≡ true → Constant d
 constant-is Input e = absurd (true≢false (sym e))
 constant-is (Driven kind pins) e =
-    let parts : (is_parity kind ≡ true) × (list_all (λ pin. not (is_odd_pin (Driven kind pins) pin)) pins ≡ true) =
-    and_parts (is_parity kind) (list_all (λ pin. not (is_odd_pin (Driven kind pins) pin)) pins) e in
+    let parts : (is_parity (family_of kind) ≡ true) × (list_all (λ pin. not (is_odd_pin (Driven kind pins) pin)) pins ≡ true) =
+    and_parts (is_parity (family_of kind)) (list_all (λ pin. not (is_odd_pin (Driven kind pins) pin)) pins) e in
     record { kind = kind; pins = pins; driver = refl; parity = parity-kind kind parts.0; even = even-each kind pins parts.1 }
 
 pub is-constant : (d : Driver) → Constant d → is_constant d ≡ true
 is-constant d c =
     ap is_constant c.driver
-    ∙ and_from (is_parity c.kind) (list_all (λ pin. not (is_odd_pin (Driven c.kind c.pins) pin)) c.pins) (kind-parity c.kind c.parity) (each-even c.kind c.pins c.even)
-
--- each kind but the flip-flop is a gate's
-gate-or-flip_flop : (kind : Kind) (pins : List Sig) → (is_gate (Driven kind pins) ≡ true) ⊎ (kind ≡ Dff)
-gate-or-flip_flop Dff pins = inr refl
-gate-or-flip_flop And pins = inl refl
-gate-or-flip_flop Nand pins = inl refl
-gate-or-flip_flop Or pins = inl refl
-gate-or-flip_flop Nor pins = inl refl
-gate-or-flip_flop Xor pins = inl refl
-gate-or-flip_flop Xnor pins = inl refl
-gate-or-flip_flop Not pins = inl refl
-gate-or-flip_flop Buf pins = inl refl
+    ∙ and_from (is_parity (family_of c.kind)) (list_all (λ pin. not (is_odd_pin (Driven c.kind c.pins) pin)) c.pins) (kind-parity c.kind c.parity) (each-even c.kind c.pins c.even)
 
 module _ (u : Unrolling) (is : IsProblem u) (kind : Kind) (pins : List Sig) (p : Place) (driver : driver_at u.circuit.drivers p.target.0 ≡ Driven kind pins) where
   -- the target's cell is none of the pins' cells
   pub target-apart : IsApartFrom kind pins p
   target-apart =
-      elim (gate-or-flip_flop kind pins) [
-        | inl gate ↦ apart_from_pins kind pins p (λ own.
-            own_pin u.circuit.drivers p.target is.is_circuit.no_loop (ap is_gate driver ∙ gate) (subst (λ (d : Driver). Contains (pins_of d) p.target) (sym driver) own))
-        | inr e ↦ subst (λ k. IsApartFrom k pins p) (sym e) (dff_apart pins p)
+      elim (cases_Bool (is_flip_flop_kind kind)) [
+        | inl is_flip_flop ↦ subst (λ k. IsApartFrom k pins p) (sym (flip_flop-dff kind is_flip_flop)) (dff_apart pins p)
+        | inr gate ↦ apart_from_pins kind pins p (λ own.
+            own_pin u.circuit.drivers p.target is.is_circuit.no_loop (ap is_gate driver ∙ not_from_false (is_flip_flop_kind kind) gate)
+            (subst (λ (d : Driver). Contains (pins_of d) p.target) (sym driver) own))
       ]
 
   -- the kind may have so many pins
@@ -142,36 +136,21 @@ module _ (u : Unrolling) (is : IsProblem u) (kind : Kind) (pins : List Sig) (p :
 -- a constant gate forces its target from nothing, in each cycle
 constant-forces : (u : Unrolling) → IsProblem u → (p : Place) → (c : Constant (driver_at u.circuit.drivers p.target.0)) → p.cycle < u.cycles
     → (l : Lit) × ForcesAt (unrolled u) (passing nothing) p l
-constant-forces u is p c early =
-    elim c.parity [
-      | inl e ↦
-          let driver : driver_at u.circuit.drivers p.target.0 ≡ Driven Xor c.pins = c.driver ∙ ap (λ k. Driven k c.pins) e in
-          let l : Lit = lit (cell_at (p.cycle + 0) p.target) false in (
-            l,
-            record {
-              instance = instance_of Xor c.pins p;
-              stands = stands-at (unrolled u) p Xor c.pins driver (omega arith);
-              forces = xor_forces_even c.pins p (target-apart u is Xor c.pins p driver) c.even nothing;
-            },
-          )
-      | inr e ↦
-          let driver : driver_at u.circuit.drivers p.target.0 ≡ Driven Xnor c.pins = c.driver ∙ ap (λ k. Driven k c.pins) e in
-          let l : Lit = lit (cell_at (p.cycle + 0) p.target) true in (
-            l,
-            record {
-              instance = instance_of Xnor c.pins p;
-              stands = stands-at (unrolled u) p Xnor c.pins driver (omega arith);
-              forces = xnor_forces_even c.pins p (target-apart u is Xnor c.pins p driver) c.even nothing;
-            },
-          )
-    ]
+constant-forces u is p c early = (
+  lit (cell_at (p.cycle + delay c.kind) p.target) c.parity.0,
+  record {
+    instance = instance_of c.kind c.pins p;
+    stands = stands-at (unrolled u) p c.kind c.pins c.driver (omega (arith, early, parity-delay c.kind c.parity));
+    forces = even_forces c.pins p c.kind c.parity.0 c.parity.1 (pin-count u is c.kind c.pins p c.driver) (target-apart u is c.kind c.pins p c.driver) c.even nothing;
+  },
+)
 
 -- what is forced from nothing is so at a constant gate
 forced-constant : (u : Unrolling) → IsProblem u → (p : Place) (l : Lit) → ForcesAt (unrolled u) (passing nothing) p l → Constant (driver_at u.circuit.drivers p.target.0)
 forced-constant u is p l f =
     let s : Stands u.cycles (driver_at u.circuit.drivers p.target.0) p f.instance = stands (unrolled u) p f.instance f.stands in
-    let says : IsParity s.kind × AllEven s.pins =
-    forces_nothing s.pins p s.kind (pin-count u is s.kind s.pins p s.driver) (target-apart u is s.kind s.pins p s.driver) l (subst (λ i. Forces i (passing nothing) l) s.is f.forces) in
+    let says : HasParity s.kind × AllEven s.pins =
+    nothing_forced s.pins p s.kind (pin-count u is s.kind s.pins p s.driver) (target-apart u is s.kind s.pins p s.driver) l (subst (λ i. Forces i (passing nothing) l) s.is f.forces) in
     record { kind = s.kind; pins = s.pins; driver = s.driver; parity = says.0; even = says.1 }
 
 module _ (u : Unrolling) (is : IsProblem u) where
@@ -299,7 +278,7 @@ some-odd drivers s kind pins driver within =
     ]
 
 -- so a parity gate none of whose signals does is constant
-pub parity-constant : (u : Unrolling) → IsProblem u → (s : Sig) (kind : Kind) → kind_of (driver_at u.circuit.drivers s.0) ≡ Some kind → is_parity kind ≡ true
+pub parity-constant : (u : Unrolling) → IsProblem u → (s : Sig) (kind : Kind) → kind_of (driver_at u.circuit.drivers s.0) ≡ Some kind → is_parity (family_of kind) ≡ true
     → not (list_any (λ odd. odd) (pin_parities u.circuit.drivers s)) ≡ is_constant (driver_at u.circuit.drivers s.0)
 parity-constant u is s kind e parity = with-driver (driver_at u.circuit.drivers s.0) refl where
   with-driver : (d : Driver) → driver_at u.circuit.drivers s.0 ≡ d → not (list_any (λ odd. odd) (pin_parities u.circuit.drivers s)) ≡ is_constant (driver_at u.circuit.drivers s.0)
@@ -308,4 +287,4 @@ parity-constant u is s kind e parity = with-driver (driver_at u.circuit.drivers 
       let same : Some k ≡ Some kind = ap kind_of (sym driver) ∙ e in
       let is_kind : k ≡ kind = cc in
       some-odd u.circuit.drivers s k pins driver (pins-within u is s.0 k pins driver)
-      ∙ sym (ap is_constant driver ∙ ap (λ b. b && list_all (λ pin. not (is_odd_pin (Driven k pins) pin)) pins) (ap is_parity is_kind ∙ parity))
+      ∙ sym (ap is_constant driver ∙ ap (λ b. b && list_all (λ pin. not (is_odd_pin (Driven k pins) pin)) pins) (ap (λ x. is_parity (family_of x)) is_kind ∙ parity))

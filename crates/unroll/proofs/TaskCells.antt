@@ -4,10 +4,10 @@ use Rattle.std.specs.List.{All, Contains}
 use Rattle.std.proofs.lemmas.Bool.{cases_Bool, cond-true, and_from, or_right, not_from_false, lt-ltb, eqb-true, eqb-false, eq-eqb}
 use Rattle.std.proofs.lemmas.List.Elements.{All-contains, All-get_or, Contains-append_left, Contains-append_right}
 use Rattle.sr_model.specs.declared.gates.Kind.{Kind}
-use Rattle.sr_model.specs.declared.gates.Kind.TheVariants.{And, Nand, Or, Nor, Xor, Xnor, Not, Buf, Dff}
 use Rattle.sr_model.specs.declared.cells.Sig.{Sig}
 use Rattle.sr_model.specs.declared.cells.Cell.{Cell}
 use Rattle.sr_model.specs.declared.cells.Place.{Place}
+use Rattle.sr_model.specs.Gate.{is_flip_flop_kind}
 use Rattle.sr_model.specs.Netlist.{Driver, Input, Driven, Instance, instance_at, cell_at, cells_of, delay}
 use Rattle.sr_model.proofs.lemmas.Instances.{Stands, stands, stands-at, instance_of}
 use Rattle.sr_model.proofs.lemmas.Members.{not_in_nil, Contains-here, Contains-there, Contains-cases, Contains-map, list_any-from, filter-has}
@@ -58,15 +58,11 @@ role-back u p c r = record {
 
 -- a flip-flop's target is one cycle later, a gate's is not
 pub delay-cases : (kind : Kind) (pins : List Sig) → ((is_flip_flop (Driven kind pins) ≡ true) × (delay kind ≡ 1)) ⊎ ((is_flip_flop (Driven kind pins) ≡ false) × (delay kind ≡ 0))
-delay-cases Dff pins = inl (refl, refl)
-delay-cases And pins = inr (refl, refl)
-delay-cases Nand pins = inr (refl, refl)
-delay-cases Or pins = inr (refl, refl)
-delay-cases Nor pins = inr (refl, refl)
-delay-cases Xor pins = inr (refl, refl)
-delay-cases Xnor pins = inr (refl, refl)
-delay-cases Not pins = inr (refl, refl)
-delay-cases Buf pins = inr (refl, refl)
+delay-cases kind pins =
+    elim (cases_Bool (is_flip_flop_kind kind)) [
+      | inl e ↦ inl (e, ap (λ b. cond {A = ℕ} b 1 0) e)
+      | inr e ↦ inr (e, ap (λ b. cond {A = ℕ} b 1 0) e)
+    ]
 
 -- a pin of a driver is read, and is one of its signals
 pub pin-read : (driver : Driver) (kind : Kind) (pins : List Sig) (pin : Sig) → driver ≡ Driven kind pins → Contains pins pin → reads driver pin ≡ true

@@ -2,10 +2,12 @@
 use Rattle.std.specs.Prelude.{ℕ, ◌≡◌, ◌+◌, ◌-◌, ◌<◌, ◌/◌, ◌==◌, ◌&&◌, ◌++◌, ◌∷◌, [], ◌||◌, ◌⊎◌, Bool, true, false, not, nat_le, nat_lt, if◌then◌else◌, List, map, Some}
 use Rattle.std.specs.List.{Contains, flat_map, list_all, range_with_len}
 use Rattle.sr_model.specs.declared.gates.Kind.{Kind}
-use Rattle.sr_model.specs.declared.gates.Kind.TheVariants.{Xor, Xnor}
+use Rattle.sr_model.specs.declared.gates.Family.{Family}
+use Rattle.sr_model.specs.declared.gates.Family.TheVariants.{AndLike, Parity}
 use Rattle.sr_model.specs.declared.cells.Sig.{Sig}
 use Rattle.sr_model.specs.declared.cells.Cell.{Cell}
 use Rattle.sr_model.specs.declared.cells.Place.{Place}
+use Rattle.sr_model.specs.Gate.{family_of}
 use Rattle.sr_model.specs.Netlist.{Driver, Input, Driven, Instance, instance_at, cell_at, cells_of, delay}
 use Rattle.netlist.specs.Wiring.{driver_at, reads, is_driven, is_flip_flop, signals_of, signals_below, other_readers, is_odd_pin}
 use Rattle.unroll.specs.declared.problem.Block.{Block}
@@ -117,15 +119,14 @@ abbrev pub adjacent_tasks : Unrolling → Block → List Task
 adjacent_tasks u b = adjacent_from u (sig_at u b) (chunk_at u b)
 
 -- its target has the parity of its pins, or the other bit
-abbrev pub is_parity : Kind → Bool
-is_parity Xor = true
-is_parity Xnor = true
-is_parity _ = false
+abbrev pub is_parity : Family → Bool
+is_parity (Parity inverted) = true
+is_parity (AndLike pins target) = false
 
--- an XOR or XNOR in which each signal stands an even number of times
+-- a parity gate in which each signal stands an even number of times
 abbrev pub is_constant : Driver → Bool
 is_constant Input = false
-is_constant (Driven kind pins) = is_parity kind && list_all (λ pin. not (is_odd_pin (Driven kind pins) pin)) pins
+is_constant (Driven kind pins) = is_parity (family_of kind) && list_all (λ pin. not (is_odd_pin (Driven kind pins) pin)) pins
 
 -- the tasks of a target, ascending
 abbrev pub tasks_at : Unrolling → Sig → List Task

@@ -5,7 +5,6 @@ ghost use Rattle.unroll.specs.Problem.{blocks_in, IsInside};
 ghost use Rattle.unroll.specs.Tasks.{IsTask, adjacent_tasks, adjacent_from, own_tasks};
 
 use crate::problem::{Block, InChunk, Problem, Task};
-use sr_model::Kind;
 
 impl<'n> Problem<'n> {
     /// The i-th of the tasks that a block is in, counted from 0; None from `adjacent_count` on. First come those of the block's own signal, where it is driven: of a
@@ -55,7 +54,7 @@ impl<'n> Problem<'n> {
     {
         match self.net().kind_of(at.sig) {
             None => 0,
-            Some(Kind::Dff) if at.chunk > 0 => 2,
+            Some(kind) if kind.is_flip_flop() && at.chunk > 0 => 2,
             Some(_) => 1,
         }
     }

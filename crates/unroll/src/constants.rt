@@ -1,16 +1,17 @@
 //! The tasks that force something where nothing is known.
 ghost use Rattle.std.specs.Prelude.{◌≡◌, ◌<◌, ◌++◌, length, OnOk, IfOk};
 ghost use Rattle.std.specs.List.{list_any};
+ghost use Rattle.sr_model.specs.Gate.{family_of};
 ghost use Rattle.netlist.specs.Wiring.{driver_at};
 ghost use Rattle.unroll.specs.Tasks.{is_constant, is_parity, tasks_at, constant_tasks, constant_tasks_at};
 
 use crate::problem::Problem;
 use crate::words::Tasks;
-use sr_model::{Kind, NoMemory, Sig};
+use sr_model::{Family, Kind, NoMemory, Sig};
 use std::alloc::Global;
 
 impl<'n> Problem<'n> {
-    /// The tasks, ascending, of the XOR and XNOR gates in which each signal stands an even number of times: they force something where nothing is known.
+    /// The tasks, ascending, of the parity gates in which each signal stands an even number of times: they force something where nothing is known.
     ///
     /// Time is linear in the pins of such gates, the signals and the tasks found.
     pub fn constant_tasks(&self, alloc: Global) -> Result<Tasks, NoMemory>
@@ -58,12 +59,9 @@ impl<'n> Problem<'n> {
 }
 
 fn is_parity(kind: Kind) -> bool
-    ensures { result ≡ is_parity kind }
+    ensures { result ≡ is_parity (family_of kind) }
 {
-    match kind {
-        Kind::Xor | Kind::Xnor => true,
-        _ => false,
-    }
+    matches!(kind.family(), Family::Parity { .. })
 }
 
 fn some_is_odd(parities: &[bool]) -> bool

@@ -1,13 +1,14 @@
 //! A netlist over a number of cycles, and its blocks.
 ghost use Rattle.std.specs.Prelude.{ℕ, ◌≡◌, ◌+◌, ◌*◌, ◌<◌, ◌≤◌, length, IsTrue};
 ghost use Rattle.sr_model.specs.Limits.{max_cycles, max_blocks, block_count};
+ghost use Rattle.netlist.specs.Wiring.{driver_at, is_flip_flop};
 ghost use Rattle.unroll.specs.Bits.{is_set, is_cycle};
 ghost use Rattle.unroll.specs.Problem.{IsProblem, chunks_in, blocks_in, block_at, sig_at, chunk_at, is_target, IsInside};
 ghost use Rattle.unroll.specs.Tasks.{task_at, goes_on_from};
 
 use crate::bits::low_bits;
 use netlist::Netlist;
-use sr_model::{Kind, Sig};
+use sr_model::Sig;
 use std::marker::Model;
 
 /// 64 cells: signal s in the chunk c of 64 cycles has the block `s * C + c`, where C is the number of chunks.
@@ -148,6 +149,17 @@ impl<'n> Problem<'n> {
         }
     }
 
+    /// Whether a flip-flop drives the signal.
+    pub fn is_flip_flop(&self, s: Sig) -> bool
+        requires { s.0 < length self.now.circuit.drivers }
+        ensures { result ≡ is_flip_flop (driver_at self.now.circuit.drivers s.0) }
+    {
+        match self.net().kind_of(s) {
+            Some(kind) => kind.is_flip_flop(),
+            None => false,
+        }
+    }
+
     /// Whether the signal is that of a flip-flop, and there is a next chunk.
     pub fn goes_on(&self, at: InChunk) -> bool
         requires { IsInside self.now at }
@@ -155,7 +167,7 @@ impl<'n> Problem<'n> {
         ensures next { IsTrue result → at.chunk + 1 < 128 }
     {
         let chunks = self.chunks();
-        matches!(self.net().kind_of(at.sig), Some(Kind::Dff)) && at.chunk + 1 < chunks
+        self.is_flip_flop(at.sig) && at.chunk + 1 < chunks
     }
 
     /// Whether a gate or flip-flop drives the block's signal, so that the block's number is that of a task.

@@ -1,5 +1,6 @@
 use Rattle.std.proofs.Common.{◌≡◌, ◌&&◌, ℕ, Some, List, length, bit_and, sym, ap, ◌∙◌, subst}
 use Rattle.sr_model.specs.declared.cells.Sig.{Sig}
+use Rattle.sr_model.specs.declared.gates.Family.TheVariants.{AndLike, Parity}
 use Rattle.sr_model.specs.Netlist.{Driver}
 use Rattle.netlist.specs.Circuit.{Circuit}
 use Rattle.netlist.specs.Wiring.{driver_at, kind_of, pins_of, pin_parities}
@@ -11,7 +12,7 @@ use Rattle.unroll.specs.Tasks.{task_at}
 use Rattle.unroll.proofs.lemmas.Words.{is_set_and}
 use Rattle.gate_rules.specs.Forced.{IsForcedExactlyIn}
 use Rattle.gate_rules.proofs.GateLanes.{kind-driver, count-odd, own-block}
-use Rattle.gate_rules.proofs.GateForced.{place-within, place-at, and_like-task, parity-task}
+use Rattle.gate_rules.proofs.GateForced.{family-rule, place-within, place-at, and_like-task, parity-task}
 use Rattle.gate_rules.proofs.gates.force_gate.Goals as goal
 
 pub place_of-place-requires : goal.place_of-place-requires
@@ -42,7 +43,7 @@ returns-in-AndLike-clause-forced c =
     (place-at c.as_slice.result.now blocks place c.block.result (block_at u target c.args.at.chunk) c.as_slice.ensures c.block.ensures.block c.place_of-place.ensures.at)
     c.args.mask view c.force_and_like.new.out.items size (bit_and c.valid_bits.result c.args.mask)
     (λ k h. is_set_and c.valid_bits.result c.args.mask k ∙ ap (λ b. b && is_set c.args.mask k) (c.valid_bits.ensures k h)) c.force_and_like.ensures.invalid
-    c.in-AndLike.gate.pins c.in-AndLike.gate.target c.in-AndLike.ensures c.force_and_like.ensures.forced)
+    c.in-AndLike.pins c.in-AndLike.target (family-rule c.gate_kind.result (AndLike c.in-AndLike.pins c.in-AndLike.target) (sym c.in-AndLike.is ∙ c.family.ensures)) c.force_and_like.ensures.forced)
 
 pub returns-in-Parity-clause-forced : goal.returns-in-Parity-clause-forced
 returns-in-Parity-clause-forced c =
@@ -62,4 +63,4 @@ returns-in-Parity-clause-forced c =
     (place-at c.as_slice.result.now blocks place c.block.result (block_at u target c.args.at.chunk) c.as_slice.ensures c.block.ensures.block c.place_of-place.ensures.at)
     c.args.mask view c.force_parity.new.out.items size (bit_and c.valid_bits.result c.args.mask)
     (λ k h. is_set_and c.valid_bits.result c.args.mask k ∙ ap (λ b. b && is_set c.args.mask k) (c.valid_bits.ensures k h)) c.force_parity.ensures.invalid
-    c.in-Parity.inverted c.pin_parities-odd.result.now (c.pin_parities-odd.ensures ∙ ap (λ (n : Circuit). pin_parities n.drivers target) circuit) c.in-Parity.ensures c.force_parity.ensures.forced)
+    c.in-Parity.inverted c.pin_parities-odd.result.now (c.pin_parities-odd.ensures ∙ ap (λ (n : Circuit). pin_parities n.drivers target) circuit) (family-rule c.gate_kind.result (Parity c.in-Parity.inverted) (sym c.in-Parity.is ∙ c.family.ensures)) c.force_parity.ensures.forced)
