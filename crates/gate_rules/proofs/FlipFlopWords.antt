@@ -6,8 +6,7 @@ use Rattle.unroll.specs.declared.words.PinWord.{PinWord}
 use Rattle.unroll.specs.Bits.{is_set, no_words}
 use Rattle.unroll.proofs.lemmas.Words.{is_set_or, is_set_and, is_set_shl_low, is_set_shl_high, is_set_shr, is_set_above}
 use Rattle.gate_rules.specs.Forced.{words_of}
-use Rattle.gate_rules.specs.declared.flip_flops.CellBlocks.{CellBlocks}
-use Rattle.gate_rules.specs.FlipFlopBits.{is_set_after, is_shared, is_bit_of}
+use Rattle.gate_rules.specs.FlipFlopBits.{is_set_after, is_shared}
 
 -- the words beside the first block that is the one
 pub words-found : (blocks : List Block) (view : List PinWord) (b c : Block) (w : PinWord) (j : ℕ) → length view ≡ length blocks → j < length blocks

@@ -1,5 +1,5 @@
 -- What is forced is in time, and what of it the view does not have.
-use Rattle.std.proofs.Common.{ℕ, ◌≡◌, ◌+◌, ◌*◌, ◌/◌, ◌%◌, ◌<◌, ◌≤◌, ◌&&◌, Bool, true, not, List, length, get_or, set, get_or-set_other, length-set, arith, refl, sym, ap, ◌∙◌}
+use Rattle.std.proofs.Common.{ℕ, ◌≡◌, ◌+◌, ◌*◌, ◌/◌, ◌%◌, ◌<◌, ◌≤◌, ◌&&◌, Bool, true, not, List, length, get_or, set, arith, sym, ap, ◌∙◌}
 use Rattle.std.specs.List.{AllPairs}
 use Rattle.std.proofs.lemmas.Bool.{and_parts, and_from, not-true, not_from_false, lt-ltb}
 use Rattle.sr_model.specs.declared.cells.Lit.{Lit}
@@ -12,7 +12,6 @@ use Rattle.unroll.proofs.lemmas.Laws.{block-itself, role}
 use Rattle.unroll.proofs.lemmas.Tasks.{cell-in_time}
 use Rattle.gate_rules.specs.Lanes.{words_at_place}
 use Rattle.gate_rules.specs.Forced.{ForcedIn, ForcedInCycles, IsForcedExactly, IsForcedExactlyIn, IsNewExactly, bit_at_place, lit_at_place, view_has, words_of}
-use Rattle.gate_rules.proofs.AndLikeSet.{set_next}
 use Rattle.gate_rules.proofs.BlockPlaces.{words_of-place}
 
 -- a forced literal is one of a cycle that is there

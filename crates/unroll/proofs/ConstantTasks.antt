@@ -1,5 +1,5 @@
 -- The constant tasks are those that force something from nothing.
-use Rattle.std.proofs.Common.{ℕ, cond, ◌≡◌, ◌+◌, ◌*◌, ◌/◌, ◌%◌, ◌<◌, ◌≤◌, ◌⊎◌, ◌&&◌, ◌↔◌, Bool, true, false, not, eqb, List, [], ◌∷◌, ◌++◌, None, Some, length, get_or, arith, inl, inr, refl, sym, ap, ◌∙◌, subst}
+use Rattle.std.proofs.Common.{ℕ, cond, ◌≡◌, ◌+◌, ◌*◌, ◌/◌, ◌%◌, ◌<◌, ◌≤◌, ◌&&◌, ◌↔◌, Bool, true, not, eqb, List, [], ◌∷◌, ◌++◌, None, Some, length, get_or, arith, inl, inr, refl, sym, ap, ◌∙◌, subst}
 use Rattle.std.specs.List.{AllPairs, Contains, flat_map, list_all, list_any, range_with_len, count_by}
 use Rattle.std.proofs.lemmas.Bool.{cases_Bool, cond-true, cond-false, true≢false, and_parts, and_from, not-true, not_from_false, eqb-true}
 use Rattle.std.proofs.lemmas.List.Elements.{All-get_or, Contains-get_or}

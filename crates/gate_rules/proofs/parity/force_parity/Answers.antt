@@ -1,7 +1,6 @@
-use Rattle.std.proofs.Common.{◌≡◌, ℕ, ◌<◌, ◌&&◌, ◌↔◌, Bool, true, List, length, get_or, set, arith, inl, inr, sym, subst, ap, ◌∙◌}
+use Rattle.std.proofs.Common.{◌≡◌, ℕ, ◌<◌, ◌&&◌, ◌↔◌, Bool, true, List, length, get_or, set, arith, sym, ap, ◌∙◌}
 use Rattle.std.proofs.Math.Bool.{and-true, and-false}
-use Rattle.std.proofs.lemmas.Bool.{cases_eq, cases_lt}
-use Rattle.std.proofs.lemmas.List.{get_or-set_same, get_or-set_other, get_or_past, length-set}
+use Rattle.std.proofs.lemmas.List.{length-set}
 use Rattle.sr_model.specs.Closure.{Forces, passing, lit}
 use Rattle.unroll.specs.declared.words.PinWord.{PinWord}
 use Rattle.unroll.specs.Bits.{is_set, word_for}
