@@ -1,9 +1,8 @@
 //! Reads a dump.
 ghost use Rattle.std.specs.Prelude.{◌≡◌, ◌↔◌, ◌+◌, ◌<◌, ℕ, IsTrue, List, length, Some, OnOk, IfOk, IfErr, All};
-ghost use Rattle.dump_reader.specs.Recording.{IsCount};
 ghost use Rattle.sr_text.specs.Lines.{past, rest_of};
 ghost use Rattle.dump_reader.specs.Tokens.{HasTwoTokens};
-ghost use Rattle.dump_reader.specs.Grammar.{IsHead, IsCyclesLine, Spells, block_count};
+ghost use Rattle.dump_reader.specs.Grammar.{IsHead, IsCyclesLine, Spells};
 ghost use Rattle.dump_reader.specs.Refusal.{IsRefusal};
 ghost use Rattle.dump_reader.specs.Reading.{ReadsHead, ReadsCycles, IsHeadRefusal, IsCyclesRefusal};
 
@@ -12,12 +11,9 @@ use crate::lines::two_tokens;
 use crate::refusal::DumpRefusal;
 use crate::row::read_row;
 use netlist::Netlist;
+use sr_model::{MAX_BLOCKS, MAX_CYCLES, block_count};
 use sr_text::{TextLines, read_u64};
 use std::alloc::Global;
-
-const MAX_CYCLES: u64 = 8192;
-
-const MAX_BLOCKS: u64 = 4_194_304;
 
 /// The dump of a text: the line `srdump 1`, the line `cycles T` with T from 1 to 8,192, and rows of a signal's name and T characters. The
 /// characters are `0`, `1`, and `x` or `X` for a cell that is not given, from the first cycle on. No signal has two rows.
@@ -78,14 +74,6 @@ pub(crate) fn read_cycles(lines: &mut TextLines, signals: u32) -> Result<u32, Du
         return Err(DumpRefusal::TooManyCells { line, product });
     }
     Ok(cycles)
-}
-
-/// How many blocks the signals have, each of up to 64 cycles of one signal.
-fn block_count(signals: u32, cycles: u32) -> u64
-    requires { IsCount cycles }
-    ensures { result ≡ block_count signals cycles }
-{
-    u64::from(signals) * u64::from(cycles.div_ceil(64))
 }
 
 fn is_head(text: &[u8]) -> bool
