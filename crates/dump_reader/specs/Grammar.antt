@@ -7,15 +7,16 @@ use Rattle.sr_model.specs.Dump.{Row}
 use Rattle.sr_model.specs.Limits.{block_count, max_blocks}
 use Rattle.dump_reader.specs.Recording.{Recording, IsCount, recorded}
 use Rattle.sr_text.specs.Lines.{FirstFault, numbered, past_end}
+use Rattle.dump_reader.specs.Head.{cycles_word, format, version}
 use Rattle.dump_reader.specs.Tokens.{HasTwoTokens}
 
 -- the first line: its format and version
 abbrev pub IsHead : List ℕ → Type 0
-IsHead text = HasTwoTokens text (codes "srdump") (codes "1")
+IsHead text = HasTwoTokens text format version
 
 -- the line of so many cycles
 abbrev pub IsCyclesLine : ℕ → List ℕ → Type 0
-IsCyclesLine cycles text = IsCount cycles × HasTwoTokens text (codes "cycles") (decimal cycles)
+IsCyclesLine cycles text = IsCount cycles × HasTwoTokens text cycles_word (decimal cycles)
 
 -- the bit of a character: 0 or 1, or none for x or X; other bytes have no meaning
 abbrev pub bit_read : ℕ → Option (Option Bool)

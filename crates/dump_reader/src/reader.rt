@@ -7,6 +7,7 @@ ghost use Rattle.dump_reader.specs.Refusal.{IsRefusal};
 ghost use Rattle.dump_reader.specs.Reading.{ReadsHead, ReadsCycles, IsHeadRefusal, IsCyclesRefusal};
 
 use crate::dump::Dump;
+use crate::head::{CYCLES, FORMAT, VERSION};
 use crate::lines::two_tokens;
 use crate::refusal::DumpRefusal;
 use crate::row::read_row;
@@ -80,7 +81,7 @@ fn is_head(text: &[u8]) -> bool
     ensures { IsTrue result ↔ IsHead text.now }
 {
     match two_tokens(text) {
-        Some((word, version)) => word == b"srdump".as_slice() && version == b"1".as_slice(),
+        Some((word, version)) => word == FORMAT && version == VERSION,
         None => false,
     }
 }
@@ -90,7 +91,7 @@ fn cycles_of(text: &[u8]) -> Option<u32>
     ensures { (cycles : ℕ) → (result ≡ Some cycles) ↔ IsCyclesLine cycles text.now }
 {
     let (word, number) = two_tokens(text)?;
-    if word != b"cycles".as_slice() {
+    if word != CYCLES {
         return None;
     }
     let cycles = read_u64(number)?;
