@@ -13,18 +13,19 @@ use Rattle.sr_model.specs.declared.cells.Lit.{Lit}
 use Rattle.sr_model.specs.declared.cells.Place.{Place}
 use Rattle.sr_model.specs.AndLike.{IsAndLike}
 use Rattle.sr_model.specs.Gate.{family_of, IsPinCount}
-use Rattle.sr_model.specs.Netlist.{Instance, cells_of, cell_at, delay}
+use Rattle.sr_model.specs.Netlist.{cell_eq, Instance, cells_of, cell_at, delay}
 use Rattle.sr_model.specs.KindLaws.{IsOfFamily}
 use Rattle.sr_model.specs.Closure.{Forces, passing, lit}
 use Rattle.sr_model.specs.Worked.{nothing}
 use Rattle.sr_model.specs.XorLike.{is_odd, IsXorLike}
 use Rattle.sr_model.proofs.lemmas.Instances.{instance_of}
 use Rattle.sr_model.proofs.lemmas.Members.{Contains-cases, Contains-here}
-use Rattle.sr_model.proofs.Rows.{cell_eq, cell_cases, cell_eq-swap}
+use Rattle.sr_model.proofs.Rows.{cell_cases, cell_eq-swap}
 use Rattle.sr_model.proofs.AndLike.{bit_cases, target_t, target_other, pin_p, pin_other}
 use Rattle.sr_model.proofs.OddCells.{target_odd, pin_odd}
 use Rattle.sr_model.proofs.OddPins.{AllEven, IsApartFrom, all_even-from, all_even-cells}
-use Rattle.sr_model.proofs.XorLike.{XorForces, is_odd-member, xor_forces}
+use Rattle.sr_model.specs.RuleLaws.{XorForces}
+use Rattle.sr_model.proofs.XorLike.{is_odd-member, xor_forces}
 use Rattle.sr_model.proofs.XorChoice.{xor_lone-exact, no_others}
 use Rattle.sr_model.proofs.KindLaws.{has_its_family, some_pins}
 use Rattle.sr_model.proofs.Families.{and_family, nand_family, or_family, nor_family, not_family, buf_family, dff_family, xor_family, xnor_family}
