@@ -5,7 +5,6 @@ use Rattle.std.proofs.lemmas.Bool.{cases_Bool, true≢false, and_parts, and_from
 use Rattle.std.proofs.lemmas.List.Elements.{All-contains, All-map}
 use Rattle.sr_model.specs.declared.cells.Cell.{Cell}
 use Rattle.sr_model.specs.declared.cells.Lit.{Lit}
-use Rattle.sr_model.specs.declared.gates.Kind.TheVariants.{Xor, Xnor}
 use Rattle.sr_model.specs.Netlist.{cell_eq, Instance, cells_of, Valuation, IsRow, Has}
 use Rattle.sr_model.specs.Closure.{Forces, passing, lit}
 use Rattle.sr_model.specs.RuleLaws.{XorForces}
@@ -13,13 +12,7 @@ use Rattle.sr_model.specs.XorLike.{plus, parity, is_odd, IsXorLike}
 use Rattle.sr_model.proofs.lemmas.Members.{Contains-here, Contains-there, Contains-map, filter-member, filter-passes, filter-has, All-from_Contains}
 use Rattle.sr_model.proofs.Rows.{cell_cases, cell_eq-swap, put, put-at, put-other, Keeps, Keeps-itself, Keeps-put, Forces-row}
 use Rattle.sr_model.proofs.AndLike.{bit_cases}
-use Rattle.sr_model.proofs.Parity.{odd_one-is, plus_move, parity-turn, parity-agree}
-
-pub xor_is : (target : Cell) (pins : List Cell) → IsXorLike false (record { kind = Xor; target = target; pins = pins })
-xor_is target pins w = odd_one-is w pins
-
-pub xnor_is : (target : Cell) (pins : List Cell) → IsXorLike true (record { kind = Xnor; target = target; pins = pins })
-xnor_is target pins w = ap not (odd_one-is w pins)
+use Rattle.sr_model.proofs.Parity.{plus_move, parity-turn, parity-agree}
 
 pub not_own : (b : Bool) → not b ≡ b → ⊥
 not_own true e = cc
