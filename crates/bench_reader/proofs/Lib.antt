@@ -1,10 +1,10 @@
 mod BenchLaws
 mod FormOrNone
 mod Forms
+mod KindWords
 mod Lines
 mod Pins
 mod PrintedTokens
-mod PrintedLines
 mod PrintedStatements
 mod Printing
 mod ReadBack

@@ -1,27 +1,32 @@
 -- What a printed text states.
-use Rattle.std.proofs.Common.{◌≡◌, ◌≢◌, ℕ, suc, ◌+◌, true, false, List, [], ◌∷◌, ◌++◌, length, map, Some, refl, sym, ap, subst, ◌∙◌, arith, rules, append_assoc, inr}
-use Rattle.std.specs.Prelude.{codes}
-use Rattle.std.specs.List.{All, list_all, flat_map}
-use Rattle.std.proofs.lemmas.Bool.{and_parts, and_from}
-use Rattle.std.proofs.lemmas.List.{append-nil}
+use Rattle.std.proofs.Common.{◌≡◌, ◌≢◌, ℕ, suc, ◌+◌, ◌-◌, ◌<◌, ◌==◌, ◌&&◌, Bool, true, false, not, eqb, List, [], ◌∷◌, ◌++◌, length, get_or, map, Some, refl, sym, ap, subst, ◌∙◌, arith, rules, append_assoc, inl, inr}
+use Rattle.std.specs.Prelude.{codes, nat_lt}
+use Rattle.std.specs.List.{All, list_all, flat_map, prefix_len}
+use Rattle.std.proofs.lemmas.Bool.{and_parts, and_from, cases_Bool, cond-false, eq-eqb, false≢true, ltb-true, not-true}
+use Rattle.std.proofs.lemmas.List.{append-nil, get_or_at, length-append}
 use Rattle.std.proofs.lemmas.List.Concat.{flat_map-append}
+use Rattle.std.proofs.lemmas.List.Elements.{All-map}
 use Rattle.std.proofs.lemmas.List.Folds.{flat_map-map}
+use Rattle.std.proofs.lemmas.List.Sums.{AllPass-from_list_all}
 use Rattle.sr_model.specs.declared.cells.Sig.{Sig}
 use Rattle.sr_model.specs.declared.gates.Kind.{Kind}
-use Rattle.sr_model.specs.declared.gates.Kind.TheVariants.{And, Nand, Or, Nor, Xor, Xnor, Not, Buf, Dff}
 use Rattle.sr_model.specs.Declaration.{Declaration, InputNamed, OutputNamed, DriverNamed}
 use Rattle.sr_model.specs.Gate.{IsPinCount}
 use Rattle.sr_model.specs.Netlist.{Driver, Input, Driven}
+use Rattle.sr_text.specs.Lines.{with_line_feed}
 use Rattle.sr_text.specs.Name.{is_name_byte, is_name}
-use Rattle.sr_text.specs.Text.{is_blank, cut_line}
+use Rattle.sr_text.specs.Text.{is_blank}
+use Rattle.sr_text.proofs.lemmas.PrintedLines.{IsPrinted, ArePrinted, from_number, numbered_printed}
 use Rattle.netlist.specs.Circuit.{Circuit}
 use Rattle.netlist.specs.Numbering.{IsSignalName, IsStatement}
 use Rattle.netlist.specs.Wiring.{driver_at, signals_below}
-use Rattle.bench_reader.specs.Grammar.{tokens, InputForm, OutputForm, DriverForm, is_short, States, Read, text_lines, kind_named}
-use Rattle.bench_reader.specs.Printed.{kind_text, name_in, listed, port_line, driver_line, bench_text}
+use Rattle.bench_reader.specs.Grammar.{tokens, InputForm, OutputForm, DriverForm, is_short, States, StateEach, Spells}
+use Rattle.bench_reader.specs.Kinds.{kind_text}
+use Rattle.bench_reader.specs.Printed.{name_in, listed, port_line, driver_line, bench_text}
+use Rattle.bench_reader.proofs.KindWords.{printed_kind, some_pins}
+use Rattle.bench_reader.proofs.SignalNames.{flat_agree}
 use Rattle.bench_reader.proofs.Tokens.{name_is_no_blank}
 use Rattle.bench_reader.proofs.PrintedTokens.{tokens-port, tokens-driver, name_bytes}
-use Rattle.bench_reader.proofs.PrintedLines.{is_plain, name_is_plain, list_all-weaker, plain_both, text_lines-none, text_lines-first, cut_line-closed}
 
 -- ---- the statements of a netlist, in the order of their lines
 
@@ -49,10 +54,10 @@ front_of (InputNamed name) = codes "INPUT" ++ codes "(" ++ name
 front_of (OutputNamed name) = codes "OUTPUT" ++ codes "(" ++ name
 front_of (DriverNamed target kind pins) = target ++ codes " = " ++ kind_text kind ++ codes "(" ++ listed pins
 
-abbrev pub line_of : Declaration → List ℕ
+abbrev line_of : Declaration → List ℕ
 line_of d = front_of d ++ codes ")\n"
 
-abbrev body_of : Declaration → List ℕ
+abbrev pub body_of : Declaration → List ℕ
 body_of d = front_of d ++ 41 ∷ []
 
 drivers_text : (c : Circuit) (signals : List Sig) → flat_map (λ s. driver_line c.names s (driver_at c.drivers s.0)) signals ≡ flat_map line_of (drivers_stated c signals)
@@ -66,7 +71,7 @@ drivers_text c (s ∷ signals) =
     one Input = refl
     one (Driven kind pins) = sym (append-nil (driver_line c.names s (Driven kind pins)))
 
-pub text_stated : (c : Circuit) → bench_text c ≡ flat_map line_of (stated_by c)
+pub text_stated : (c : Circuit) → bench_text c ≡ flat_map with_line_feed (map body_of (stated_by c))
 text_stated c =
     let ins = flat_map (λ s. port_line (codes "INPUT") (name_in c.names s)) c.inputs in
     let outs = flat_map (λ s. port_line (codes "OUTPUT") (name_in c.names s)) c.outputs in
@@ -76,6 +81,8 @@ text_stated c =
     ∙ ap (λ (t : List ℕ). t ++ flat_map line_of (outputs_stated c) ++ flat_map line_of (drivers_stated c signals)) (sym (flat_map-map line_of (λ s. InputNamed (name_in c.names s)) c.inputs))
     ∙ ap (λ (t : List ℕ). t ++ flat_map line_of (drivers_stated c signals)) (sym (flat_map-append line_of (inputs_stated c) (outputs_stated c)))
     ∙ sym (flat_map-append line_of (inputs_stated c ++ outputs_stated c) (drivers_stated c signals))
+    ∙ flat_agree line_of (λ d. with_line_feed (body_of d)) (stated_by c) (λ d. sym (append_assoc (front_of d) (41 ∷ []) (10 ∷ [])))
+    ∙ sym (flat_map-map with_line_feed body_of (stated_by c))
 
 -- ---- each line states its statement
 
@@ -96,6 +103,23 @@ names_short (name ∷ names) all =
     let short : is_short name ≡ true = search (rules, arith) in
     and_from (is_short name) (list_all is_short names) short (names_short names (All-rest IsSignalName name names all))
 
+-- a byte that neither ends a line nor begins a comment
+abbrev is_plain : ℕ → Bool
+is_plain b = nat_lt 31 b && not (b == 35)
+
+name_is_plain : (b : ℕ) → is_name_byte b ≡ true → is_plain b ≡ true
+name_is_plain b n = elim (cases_Bool (is_plain b)) [ inl p ↦ p | inr e ↦ absurd (search (arith, rules)) ]
+
+list_all-weaker : (p q : ℕ → Bool) (xs : List ℕ) → ((b : ℕ) → p b ≡ true → q b ≡ true) → list_all p xs ≡ true → list_all q xs ≡ true
+list_all-weaker p q [] weaker all = refl
+list_all-weaker p q (b ∷ xs) weaker all =
+    let parts = and_parts (p b) (list_all p xs) all in and_from (q b) (list_all q xs) (weaker b parts.0) (list_all-weaker p q xs weaker parts.1)
+
+plain_both : (xs ys : List ℕ) → list_all is_plain xs ≡ true → list_all is_plain ys ≡ true → list_all is_plain (xs ++ ys) ≡ true
+plain_both [] ys a b = b
+plain_both (x ∷ xs) ys a b =
+    let parts = and_parts (is_plain x) (list_all is_plain xs) a in and_from (is_plain x) (list_all is_plain (xs ++ ys)) parts.0 (plain_both xs ys parts.1 b)
+
 name_plain : (name : List ℕ) → is_name name ≡ true → list_all is_plain name ≡ true
 name_plain name is = list_all-weaker is_name_byte is_plain name name_is_plain (name_bytes name is)
 
@@ -106,39 +130,6 @@ listed_plain (name ∷ next ∷ names) are =
     let parts = and_parts (is_name name) (list_all is_name (next ∷ names)) are in
     plain_both (name ++ codes ", ") (listed (next ∷ names)) (plain_both name (codes ", ") (name_plain name parts.0) refl) (listed_plain (next ∷ names) parts.1)
 
-kind_is_name : (kind : Kind) → is_name (kind_text kind) ≡ true
-kind_is_name And = refl
-kind_is_name Nand = refl
-kind_is_name Or = refl
-kind_is_name Nor = refl
-kind_is_name Xor = refl
-kind_is_name Xnor = refl
-kind_is_name Not = refl
-kind_is_name Buf = refl
-kind_is_name Dff = refl
-
-kind_is_named : (kind : Kind) → kind_named (kind_text kind) ≡ Some kind
-kind_is_named And = refl
-kind_is_named Nand = refl
-kind_is_named Or = refl
-kind_is_named Nor = refl
-kind_is_named Xor = refl
-kind_is_named Xnor = refl
-kind_is_named Not = refl
-kind_is_named Buf = refl
-kind_is_named Dff = refl
-
-some_pins : (kind : Kind) (pins : List (List ℕ)) → IsPinCount kind (length pins) → pins ≢ []
-some_pins And pins count none = let size = ap length none in absurd (omega arith)
-some_pins Nand pins count none = let size = ap length none in absurd (omega arith)
-some_pins Or pins count none = let size = ap length none in absurd (omega arith)
-some_pins Nor pins count none = let size = ap length none in absurd (omega arith)
-some_pins Xor pins count none = let size = ap length none in absurd (omega arith)
-some_pins Xnor pins count none = let size = ap length none in absurd (omega arith)
-some_pins Not pins count none = let size = ap length none in absurd (omega arith)
-some_pins Buf pins count none = let size = ap length none in absurd (omega arith)
-some_pins Dff pins count none = let size = ap length none in absurd (omega arith)
-
 front_plain : (d : Declaration) → IsStatement d → list_all is_plain (front_of d) ≡ true
 front_plain (InputNamed name) is = plain_both (codes "INPUT" ++ codes "(") name refl (name_plain name (All-first IsSignalName name [] is.1).0)
 front_plain (OutputNamed name) is = plain_both (codes "OUTPUT" ++ codes "(") name refl (name_plain name (All-first IsSignalName name [] is.1).0)
@@ -147,8 +138,13 @@ front_plain (DriverNamed target kind pins) is =
     let parts = and_parts (is_name target) (list_all is_name pins) are in
     plain_both (target ++ codes " = " ++ kind_text kind ++ codes "(") (listed pins)
     (plain_both (target ++ codes " = " ++ kind_text kind) (codes "(")
-    (plain_both (target ++ codes " = ") (kind_text kind) (plain_both target (codes " = ") (name_plain target parts.0) refl) (name_plain (kind_text kind) (kind_is_name kind))) refl)
+    (plain_both (target ++ codes " = ") (kind_text kind) (plain_both target (codes " = ") (name_plain target parts.0) refl) (name_plain (kind_text kind) (printed_kind kind).0)) refl)
     (listed_plain pins parts.1)
+
+plain_is : (b : ℕ) → is_plain b ≡ true → (31 < b) × (b ≢ 35)
+plain_is b plain =
+    let parts = and_parts (nat_lt 31 b) (not (b == 35)) plain in
+    (ltb-true 31 b parts.0, λ e. false≢true (sym (not-true (eqb b 35) parts.1) ∙ eq-eqb b 35 e))
 
 -- the first byte of a line is no blank
 abbrev BeginsSolid : List ℕ → Type 0
@@ -163,10 +159,19 @@ begins_solid (DriverNamed (b ∷ target) kind pins) is =
     let byte = (and_parts (is_name_byte b) (list_all is_name_byte target) (name_bytes (b ∷ target) named)).0 in
     (b, target ++ codes " = " ++ kind_text kind ++ codes "(" ++ listed pins ++ 41 ∷ [], refl, name_is_no_blank b byte)
 
-body_uncut : (d : Declaration) → IsStatement d → cut_line (body_of d) ≡ body_of d
-body_uncut d is =
+body_printed : (d : Declaration) → IsStatement d → IsPrinted (body_of d)
+body_printed d is =
+    let body : List ℕ = body_of d in
+    let size : length body ≡ length (front_of d) + 1 = length-append (front_of d) (41 ∷ []) in
     let solid = begins_solid d is in
-    cut_line-closed (body_of d) (front_of d) solid.1 solid.0 refl solid.2 solid.3 (plain_both (front_of d) (41 ∷ []) (front_plain d is) refl)
+    let plain = AllPass-from_list_all is_plain body (plain_both (front_of d) (41 ∷ []) (front_plain d is) refl) in
+    let last : get_or body (length body - 1) 0 ≡ 41 = get_or_at (front_of d) 41 [] 0 (length body - 1) (omega (arith, size)) in
+    record {
+      some = omega (arith, size);
+      bytes = λ k e lt. plain_is (get_or body k e) (plain k e lt);
+      begins = ap (prefix_len is_blank) solid.2 ∙ cond-false (is_blank solid.0) (1 + prefix_len is_blank solid.1) 0 solid.3;
+      ends = omega (arith, last);
+    }
 
 port_grouped : (word name : List ℕ) → word ++ codes "(" ++ name ++ 41 ∷ [] ≡ word ++ (40 ∷ (name ++ 41 ∷ []))
 port_grouped word name = append_assoc (word ++ codes "(") name (41 ∷ []) ∙ append_assoc word (codes "(") (name ++ 41 ∷ [])
@@ -201,27 +206,23 @@ body_states (DriverNamed target kind pins) is =
       form = DriverForm target (kind_text kind) pins;
       has_form = (
         _,
-        ap tokens (driver_grouped target (kind_text kind) (listed pins)) ∙ tokens-driver target (kind_text kind) pins parts.0 (kind_is_name kind) parts.1,
+        ap tokens (driver_grouped target (kind_text kind) (listed pins)) ∙ tokens-driver target (kind_text kind) pins parts.0 (printed_kind kind).0 parts.1,
         (some_pins kind pins is.0, refl),
       );
       short = names_short (target ∷ pins) is.1;
-      right_pins = λ other named. subst (λ k. IsPinCount k (length pins)) (let both = sym (kind_is_named kind) ∙ named in let same : kind ≡ other = cc in same) is.0;
-      declares = (kind, kind_is_named kind, refl);
+      right_pins = λ other named. subst (λ k. IsPinCount k (length pins)) (let both = sym (printed_kind kind).1 ∙ named in let same : kind ≡ other = cc in same) is.0;
+      declares = (kind, (printed_kind kind).1, refl);
     }
 
--- statements with their lines, from a number on
-abbrev pub numbered : ℕ → List Declaration → List (ℕ × Declaration)
-numbered n [] = []
-numbered n (d ∷ ds) = (n, d) ∷ numbered (n + 1) ds
-
-pub numbered-without : (n : ℕ) (ds : List Declaration) → map (λ (d : ℕ × Declaration). d.1) (numbered n ds) ≡ ds
+pub numbered-without : (n : ℕ) (ds : List Declaration) → map (λ (d : ℕ × Declaration). d.1) (from_number n ds) ≡ ds
 numbered-without n [] = refl
 numbered-without n (d ∷ ds) = ap (λ es. d ∷ es) (numbered-without (n + 1) ds)
 
-pub lines_read : (n : ℕ) (ds : List Declaration) → All IsStatement ds → Read n (text_lines (flat_map line_of ds)) (numbered n ds)
-lines_read n [] all = subst (λ (lines : List (List ℕ)). Read n lines []) (sym text_lines-none) refl
-lines_read n (d ∷ ds) all =
-    let is = All-first IsStatement d ds all in
-    let first = text_lines-first (front_of d) (flat_map line_of ds) (front_plain d is) in
-    subst (λ (lines : List (List ℕ)). Read n lines (numbered n (d ∷ ds))) (sym first)
-    (inr (d, numbered (n + 1) ds, subst (λ (t : List ℕ). States t d) (sym (body_uncut d is)) (body_states d is), refl, lines_read (n + 1) ds (All-rest IsStatement d ds all)))
+bodies_state : (n : ℕ) (ds : List Declaration) → All IsStatement ds → StateEach (from_number n (map body_of ds)) (from_number n ds)
+bodies_state n [] all = tt
+bodies_state n (d ∷ ds) all = ((refl, body_states d (All-first IsStatement d ds all)), bodies_state (n + 1) ds (All-rest IsStatement d ds all))
+
+pub spelled : (ds : List Declaration) → All IsStatement ds → Spells (flat_map with_line_feed (map body_of ds)) (from_number 1 ds)
+spelled ds all =
+    let are : ArePrinted (map body_of ds) = All-map IsPrinted body_of ds (λ k d lt. body_printed (get_or ds k d) (all k d lt)) in
+    subst (λ (lines : List (ℕ × List ℕ)). StateEach lines (from_number 1 ds)) (sym (numbered_printed (map body_of ds) are)) (bodies_state 1 ds all)

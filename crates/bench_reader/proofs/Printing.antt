@@ -11,7 +11,8 @@ use Rattle.netlist.specs.Wiring.{signals_below, kind_of, pins_of}
 use Rattle.sr_model.specs.declared.cells.Sig.{Sig}
 use Rattle.sr_model.specs.declared.gates.Kind.{Kind}
 use Rattle.sr_model.specs.Netlist.{Driver, Input, Driven}
-use Rattle.bench_reader.specs.Printed.{listed, port_line, driver_line, kind_text, name_in}
+use Rattle.bench_reader.specs.Kinds.{kind_text}
+use Rattle.bench_reader.specs.Printed.{listed, port_line, driver_line, name_in}
 
 flat_map-push : {X : Type 0} (f : X → List ℕ) (xs : List X) (x : X) (before now after : List ℕ) → now ≡ before ++ flat_map f xs → after ≡ now ++ f x → after ≡ before ++ flat_map f (xs ++ x ∷ [])
 flat_map-push f xs x before now after so_far more =

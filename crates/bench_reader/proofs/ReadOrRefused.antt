@@ -2,18 +2,19 @@
 use Rattle.std.proofs.Common.{◌≡◌, ◌≢◌, ◌⊎◌, ℕ, ◌+◌, ◌≤◌, List, [], ◌∷◌, ◌++◌, length, take, drop, Option, Some, None, refl, sym, subst, ◌∙◌, inl, inr, arith}
 use Rattle.std.specs.List.{list_all}
 use Rattle.std.proofs.lemmas.Bool.{cases_Bool, cases_eq, cases_lt, both_ways}
-use Rattle.sr_text.specs.Text.{cut_line}
+use Rattle.sr_text.specs.Lines.{numbered}
 use Rattle.sr_model.specs.declared.gates.Kind.{Kind}
 use Rattle.sr_model.specs.declared.gates.Kind.TheVariants.{And, Nand, Or, Nor, Xor, Xnor, Not, Buf, Dff}
 use Rattle.sr_model.specs.Gate.{IsPinCount}
 use Rattle.sr_model.specs.Declaration.{Declaration, InputNamed, OutputNamed, DriverNamed}
 use Rattle.bench_reader.specs.declared.reader.BenchRefusal.{BenchRefusal}
 use Rattle.bench_reader.specs.declared.reader.BenchRefusal.TheVariants.{Syntax, NameLong, UnknownKind, WrongPins, NoMemory}
-use Rattle.bench_reader.specs.Grammar.{Form, InputForm, OutputForm, DriverForm, HasForm, kind_named, is_short, signal_names, HasRightPins, Declares, States, text_lines, Read, Spells}
+use Rattle.bench_reader.specs.Grammar.{Form, InputForm, OutputForm, DriverForm, HasForm, is_short, signal_names, HasRightPins, Declares, States, Spells}
+use Rattle.bench_reader.specs.Kinds.{kind_named}
 use Rattle.bench_reader.specs.Refusal.{IsRefusal, IsLineRefusal, IsFormRefusal}
 use Rattle.bench_reader.specs.Laws.{IsReadOrRefused}
 use Rattle.bench_reader.proofs.FormOrNone.{form_or_none}
-use Rattle.bench_reader.proofs.Lines.{line_refusal, states, next_line, read_skipped, read_stated, refusal_of, whole_read}
+use Rattle.bench_reader.proofs.Lines.{HasRead, line_refusal, states, read_more, refusal_of, whole_read}
 
 many_or_not : (n : ℕ) → ((1 ≤ n) × (n ≤ 1024)) ⊎ ((1 ≤ n) × (n ≤ 1024) → ⊥)
 many_or_not n =
@@ -64,35 +65,24 @@ form_states text number form has =
       ]
     ]
 
-line_states : (text : List ℕ) (number : ℕ) → text ≢ [] → StatesOrBad text number
-line_states text number some =
+line_states : (text : List ℕ) (number : ℕ) → StatesOrBad text number
+line_states text number =
     elim (form_or_none text) [
       | inl (form, has) ↦ form_states text number form has
-      | inr none ↦ inr (Syntax number, (refl, (some, none)), λ other. cc)
+      | inr none ↦ inr (Syntax number, (refl, none), λ other. cc)
     ]
-
-empty_or_not : (text : List ℕ) → (text ≡ []) ⊎ (text ≢ [])
-empty_or_not [] = inl refl
-empty_or_not (b ∷ text) = inr (λ e. cc)
 
 abbrev Outcome : List ℕ → Type 0
 Outcome text = ((stated : List (ℕ × Declaration)) × Spells text stated) ⊎ ((r : BenchRefusal) × IsRefusal text r × (r ≢ NoMemory))
 
--- the lines that are left, behind so many that were read
-lines_read : (text : List ℕ) (left : List (List ℕ)) (n : ℕ) (stated : List (ℕ × Declaration)) → left ≡ drop n (text_lines text) → n ≤ length (text_lines text) → Read 1 (take n (text_lines text)) stated → Outcome text
-lines_read text [] n stated e few read = inl (stated, whole_read text n stated (sym e) read)
-lines_read text (line ∷ rest) n stated e few read =
-    let all : List (List ℕ) = text_lines text in
-    let more = next_line all (line ∷ rest) rest n line e refl in
-    elim (empty_or_not (cut_line line)) [
-      | inl empty ↦ lines_read text rest (n + 1) stated more.1 more.0 (subst (λ (lines : List (List ℕ)). Read 1 lines stated) (sym more.2) (read_skipped 1 (take n all) line stated read empty))
-      | inr some ↦ elim (line_states (cut_line line) (n + 1) some) [
-        | inr (r, bad, other) ↦ inr (r, refusal_of text line rest n stated r few (sym e) read bad, other)
-        | inl (d, says) ↦
-            let longer : List (ℕ × Declaration) = stated ++ (1 + length (take n all), d) ∷ [] in
-            lines_read text rest (n + 1) longer more.1 more.0 (subst (λ (lines : List (List ℕ)). Read 1 lines longer) (sym more.2) (read_stated 1 (take n all) line stated d read says))
-      ]
+-- the lines that are left, behind those that were read
+lines_read : (text : List ℕ) (left : List (ℕ × List ℕ)) (stated : List (ℕ × Declaration)) → HasRead text stated left → Outcome text
+lines_read text [] stated read = inl (stated, whole_read text stated [] read refl)
+lines_read text (line ∷ rest) stated read =
+    elim (line_states line.1 line.0) [
+      | inr (r, bad, other) ↦ inr (r, refusal_of text line.1 line.0 stated (line ∷ rest) rest r read refl bad, other)
+      | inl (d, says) ↦ lines_read text rest (stated ++ (line.0, d) ∷ []) (read_more text line.1 line.0 d stated (stated ++ (line.0, d) ∷ []) (line ∷ rest) rest read refl says refl)
     ]
 
 pub read_or_refused : IsReadOrRefused
-read_or_refused text = lines_read text (text_lines text) 0 [] refl (omega arith) refl
+read_or_refused text = lines_read text (numbered text) [] ([], refl, tt)

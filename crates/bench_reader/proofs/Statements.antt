@@ -5,13 +5,14 @@ use Rattle.std.specs.List.{All, list_all}
 use Rattle.std.proofs.lemmas.Bool.{cases_Bool, cond-true, cond-false, and_parts, and_from}
 use Rattle.std.proofs.lemmas.List.Elements.{All-nil, All-cons, All-map}
 use Rattle.std.proofs.lemmas.Option.{option_and_then_some}
-use Rattle.sr_text.specs.Text.{is_blank, cut_line}
+use Rattle.sr_text.specs.Lines.{numbered}
+use Rattle.sr_text.specs.Text.{is_blank}
 use Rattle.sr_text.specs.Name.{is_name_byte, is_name}
 use Rattle.sr_model.specs.Room.{WithRoom}
 use Rattle.sr_model.specs.declared.statements.Numbered.{Numbered}
 use Rattle.sr_model.specs.Declaration.{Declaration, declared, declarations_of, declaration_of}
 use Rattle.netlist.specs.Numbering.{IsSignalName, IsStatement}
-use Rattle.bench_reader.specs.Grammar.{Token, Name, Open, Close, Comma, Equals, is_mark, mark_of, begins_with_name, longer_name, with_byte, tokens, pin_tokens, Form, InputForm, OutputForm, DriverForm, HasTokens, is_short, signal_names, HasRightPins, Declares, States, text_lines, Read, Spells}
+use Rattle.bench_reader.specs.Grammar.{Token, Name, Open, Close, Comma, Equals, is_mark, mark_of, begins_with_name, longer_name, with_byte, tokens, pin_tokens, Form, InputForm, OutputForm, DriverForm, HasTokens, is_short, signal_names, HasRightPins, Declares, States, StateEach, Spells}
 use Rattle.bench_reader.specs.Laws.{SpellsStatements}
 use Rattle.bench_reader.proofs.Tokens.{class_of, a_blank, a_mark, a_name, another}
 
@@ -107,19 +108,18 @@ stated_is : (text : List ℕ) (d : Declaration) → States text d → IsStatemen
 stated_is text d is =
     declared_is is.form d is.declares is.right_pins (signal_names_are (signal_names is.form) (form_names is.has_form.0 is.form (are_names text is.has_form.0 is.has_form.1) is.has_form.2) is.short)
 
-pub read_are : (number : ℕ) (lines : List (List ℕ)) (stated : List (ℕ × Declaration)) → Read number lines stated → All (λ x. IsStatement x.1) stated
-read_are number [] stated read = subst (λ found. All (λ (x : ℕ × Declaration). IsStatement x.1) found) (sym read) (All-nil (λ x. IsStatement x.1))
-read_are number (line ∷ lines) stated (inl (empty, read)) = read_are (number + 1) lines stated read
-read_are number (line ∷ lines) stated (inr (d, rest, is, e, read)) =
-    subst (λ found. All (λ (x : ℕ × Declaration). IsStatement x.1) found) (sym e)
-    (All-cons (λ x. IsStatement x.1) (number, d) rest (stated_is (cut_line line) d is) (read_are (number + 1) lines rest read))
+each_is : (lines : List (ℕ × List ℕ)) (stated : List (ℕ × Declaration)) → StateEach lines stated → All (λ x. IsStatement x.1) stated
+each_is [] [] state = All-nil (λ x. IsStatement x.1)
+each_is [] (x ∷ stated) state = absurd state
+each_is (line ∷ lines) [] state = absurd state
+each_is (line ∷ lines) (x ∷ stated) state = All-cons (λ y. IsStatement y.1) x stated (stated_is line.1 x.1 state.0.1) (each_is lines stated state.1)
 
 declared-of : (numbered : List Numbered) → map (λ (x : ℕ × Declaration). x.1) (map (λ s. (s.line, declaration_of s.statement)) numbered) ≡ map (λ s. declaration_of s.statement) numbered
 declared-of [] = refl
 declared-of (s ∷ numbered) = ap (λ (ds : List Declaration). declaration_of s.statement ∷ ds) (declared-of numbered)
 
 pub spells_statements : SpellsStatements
-spells_statements text stated spells = All-map IsStatement (λ (x : ℕ × Declaration). x.1) stated (read_are 1 (text_lines text) stated spells)
+spells_statements text stated spells = All-map IsStatement (λ (x : ℕ × Declaration). x.1) stated (each_is (numbered text) stated spells)
 
 -- the statements of a text that was read
 pub spelled_are : (text : List ℕ) (s : WithRoom Numbered) → Spells text (declarations_of s) → All IsStatement (declared s)

@@ -1,14 +1,14 @@
 -- The grammar of a netlist's text: what each line states.
-use Rattle.std.specs.Prelude.{ℕ, ◌+◌, ◌≡◌, ◌≢◌, ◌==◌, ◌||◌, ◌⊎◌, Bool, false, IsTrue, List, [], ◌∷◌, ◌++◌, length, map, codes, if◌then◌else◌, Option, Some, None, option_and_then, nat_le}
-use Rattle.std.specs.List.{list_all}
+use Rattle.std.specs.Prelude.{ℕ, ◌≡◌, ◌≢◌, ◌==◌, ◌||◌, Bool, false, IsTrue, List, [], ◌∷◌, ◌++◌, length, map, codes, if◌then◌else◌, Option, Some, None, option_and_then, nat_le}
+use Rattle.std.specs.List.{AllZip, list_all}
 use Rattle.std.specs.Str.{str_eq_ignore_ascii_case}
-use Rattle.bstr.specs.Text.{lines_of, without_terminator}
-use Rattle.sr_text.specs.Text.{is_blank, cut_line}
+use Rattle.sr_text.specs.Lines.{FirstFault, numbered}
+use Rattle.sr_text.specs.Text.{is_blank}
 use Rattle.sr_text.specs.Name.{is_name_byte}
 use Rattle.sr_model.specs.Gate.{IsPinCount}
 use Rattle.sr_model.specs.declared.gates.Kind.{Kind}
-use Rattle.sr_model.specs.declared.gates.Kind.TheVariants.{And, Nand, Or, Nor, Xor, Xnor, Not, Buf, Dff}
 use Rattle.sr_model.specs.Declaration.{Declaration, InputNamed, OutputNamed, DriverNamed}
+use Rattle.bench_reader.specs.Kinds.{kind_named}
 
 -- what a line is made of: names, and the marks ( ) , and =
 pub data Token : Type 0 where
@@ -73,20 +73,6 @@ HasTokens ts (DriverForm target word pins) = (pins ≢ []) × (ts ≡ Name targe
 abbrev pub HasForm : List ℕ → Form → Type 0
 HasForm text form = (ts : List Token) × (tokens text ≡ Some ts) × HasTokens ts form
 
--- the words of the kinds
-abbrev pub kind_words : List (List ℕ × Kind)
-kind_words =
-    (codes "AND", And) ∷ (codes "NAND", Nand) ∷ (codes "OR", Or) ∷ (codes "NOR", Nor) ∷ (codes "XOR", Xor) ∷ (codes "XNOR", Xnor)
-    ∷ (codes "NOT", Not) ∷ (codes "BUF", Buf) ∷ (codes "BUFF", Buf) ∷ (codes "DFF", Dff) ∷ []
-
--- the kind that a word names in a table of words, in any case
-abbrev pub kind_among : List (List ℕ × Kind) → List ℕ → Option Kind
-kind_among [] word = None
-kind_among (entry ∷ entries) word = if str_eq_ignore_ascii_case word entry.0 then Some entry.1 else kind_among entries word
-
-abbrev pub kind_named : List ℕ → Option Kind
-kind_named word = kind_among kind_words word
-
 -- the names of signals in a form; the word of a kind is none
 abbrev pub signal_names : Form → List (List ℕ)
 signal_names (InputForm name) = name ∷ []
@@ -126,7 +112,7 @@ pub record States (text : List ℕ) (d : Declaration) : Type 0 where
 
 -- the text has none of the forms
 abbrev pub IsSyntaxFault : List ℕ → Type 0
-IsSyntaxFault text = (text ≢ []) × ((form : Form) → HasForm text form → ⊥)
+IsSyntaxFault text = (form : Form) → HasForm text form → ⊥
 
 -- the text has a form, with a name that is too long
 abbrev pub IsNameFault : List ℕ → Type 0
@@ -140,28 +126,14 @@ IsKindFault text = (form : Form) × HasForm text form × HasShortNames form × �
 abbrev pub IsPinFault : List ℕ → Type 0
 IsPinFault text = (form : Form) × HasForm text form × HasShortNames form × IsKnownKind form × ¬ HasRightPins form
 
--- the lines of a text, without their line feeds
-abbrev pub text_lines : List ℕ → List (List ℕ)
-text_lines text = map without_terminator (lines_of text)
+-- the lines state these declarations, each with its line's number
+abbrev pub StateEach : List (ℕ × List ℕ) → List (ℕ × Declaration) → Type 0
+StateEach lines stated = AllZip (λ line d. (d.0 ≡ line.0) × States line.1 d.1) lines stated
 
--- The lines, counted from a number on, state these declarations, each with its line. A line that is empty once it is cut states nothing.
-abbrev pub Read : ℕ → List (List ℕ) → List (ℕ × Declaration) → Type 0
-Read number [] stated = stated ≡ []
-Read number (line ∷ lines) stated =
-    ((cut_line line ≡ []) × Read (number + 1) lines stated)
-    ⊎ ((d : Declaration) × (rest : List (ℕ × Declaration)) × States (cut_line line) d × (stated ≡ (number, d) ∷ rest) × Read (number + 1) lines rest)
-
--- the text states these declarations, each with its line; lines count from 1
+-- the text states these declarations, each with its line's number; a line that is empty once it is cut states nothing
 abbrev pub Spells : List ℕ → List (ℕ × Declaration) → Type 0
-Spells text stated = Read 1 (text_lines text) stated
+Spells text stated = StateEach (numbered text) stated
 
--- the first line that is not in the grammar is this one, and this is so of it once it is cut
-pub record FirstFault (IsFault : List ℕ → Type 0) (text : List ℕ) (number : ℕ) : Type 0 where
-  pub before : List (List ℕ)
-  pub bad : List ℕ
-  pub after : List (List ℕ)
-  pub lines : text_lines text ≡ before ++ bad ∷ after
-  pub stated : List (ℕ × Declaration)
-  pub read : Read 1 before stated
-  pub is_next : number ≡ length before + 1
-  pub fault : IsFault (cut_line bad)
+-- the first line that is not in the grammar has this number, and this is so of it once it is cut
+abbrev pub IsFirstFault : (List ℕ → Type 0) → List ℕ → ℕ → Type 0
+IsFirstFault IsFault text number = FirstFault StateEach (λ stated bad. IsFault bad) (numbered text) number

@@ -1,5 +1,6 @@
 pub mod Found
 pub mod Grammar
+pub mod Kinds
 pub mod Laws
 pub mod Refusal
 pub mod Printed

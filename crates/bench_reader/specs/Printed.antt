@@ -1,24 +1,11 @@
 -- The printed text of a netlist.
 use Rattle.std.specs.Prelude.{ℕ, List, [], ◌∷◌, ◌++◌, map, length, codes, slice_index_or}
 use Rattle.std.specs.List.{flat_map}
-use Rattle.sr_model.specs.declared.gates.Kind.{Kind}
-use Rattle.sr_model.specs.declared.gates.Kind.TheVariants.{And, Nand, Or, Nor, Xor, Xnor, Not, Buf, Dff}
 use Rattle.sr_model.specs.declared.cells.Sig.{Sig}
 use Rattle.sr_model.specs.Netlist.{Driver, Input, Driven}
 use Rattle.netlist.specs.Circuit.{Circuit}
 use Rattle.netlist.specs.Wiring.{driver_at, signals_below}
-
--- the word of a kind, as it is printed
-abbrev pub kind_text : Kind → List ℕ
-kind_text And = codes "AND"
-kind_text Nand = codes "NAND"
-kind_text Or = codes "OR"
-kind_text Nor = codes "NOR"
-kind_text Xor = codes "XOR"
-kind_text Xnor = codes "XNOR"
-kind_text Not = codes "NOT"
-kind_text Buf = codes "BUFF"
-kind_text Dff = codes "DFF"
+use Rattle.bench_reader.specs.Kinds.{kind_text}
 
 -- the name of a signal
 abbrev pub name_in : List (List ℕ) → Sig → List ℕ

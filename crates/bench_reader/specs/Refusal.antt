@@ -2,7 +2,7 @@
 use Rattle.std.specs.Prelude.{ℕ, ◌≡◌, List}
 use Rattle.bench_reader.specs.declared.reader.BenchRefusal.{BenchRefusal}
 use Rattle.bench_reader.specs.declared.reader.BenchRefusal.TheVariants.{Syntax, NameLong, UnknownKind, WrongPins, NoMemory}
-use Rattle.bench_reader.specs.Grammar.{Form, IsKnownKind, HasRightPins, IsSyntaxFault, IsNameFault, IsKindFault, IsPinFault, FirstFault}
+use Rattle.bench_reader.specs.Grammar.{Form, IsKnownKind, HasRightPins, IsSyntaxFault, IsNameFault, IsKindFault, IsPinFault, IsFirstFault}
 
 -- the text, which stands in this line, is bad in this way
 abbrev pub IsLineRefusal : List ℕ → ℕ → BenchRefusal → Type 0
@@ -14,10 +14,10 @@ IsLineRefusal text number NoMemory = Unit {0}
 
 -- the first bad line of the text is bad in this way
 abbrev pub IsRefusal : List ℕ → BenchRefusal → Type 0
-IsRefusal text (Syntax line) = FirstFault IsSyntaxFault text line
-IsRefusal text (NameLong line) = FirstFault IsNameFault text line
-IsRefusal text (UnknownKind line) = FirstFault IsKindFault text line
-IsRefusal text (WrongPins line) = FirstFault IsPinFault text line
+IsRefusal text (Syntax line) = IsFirstFault IsSyntaxFault text line
+IsRefusal text (NameLong line) = IsFirstFault IsNameFault text line
+IsRefusal text (UnknownKind line) = IsFirstFault IsKindFault text line
+IsRefusal text (WrongPins line) = IsFirstFault IsPinFault text line
 IsRefusal text NoMemory = Unit {0}
 
 -- the form, which has short names, is bad in this way

@@ -3,10 +3,12 @@
 
 mod form;
 mod kinds;
+mod laws;
 mod print;
 mod reader;
 #[cfg(test)]
 mod tests;
 
-pub use print::{print_bench, print_laws};
-pub use reader::{BenchRefusal, bench_laws, read_bench};
+pub use laws::{bench_laws, print_laws};
+pub use print::print_bench;
+pub use reader::{BenchRefusal, read_bench};

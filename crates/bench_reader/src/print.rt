@@ -3,7 +3,6 @@ ghost use Rattle.std.specs.Prelude.{◌≡◌, ◌<◌, ◌≤◌, ◌++◌, len
 ghost use Rattle.std.specs.List.{flat_map};
 ghost use Rattle.netlist.specs.Circuit.{IsCircuit};
 ghost use Rattle.netlist.specs.Wiring.{driver_at, signals_below};
-ghost use Rattle.bench_reader.specs.PrintLaws.{IsReadBack};
 ghost use Rattle.bench_reader.specs.Printed.{bench_text, port_line, driver_line, listed, name_in};
 
 use crate::kinds::kind_word;
@@ -94,8 +93,3 @@ fn push_listed(text: &mut Vec<u8>, n: &Netlist, pins: &[Sig]) -> Result<(), Allo
     }
     Ok(())
 }
-
-/// Reading the printed text of a netlist gives the same netlist.
-pub fn print_laws()
-    ensures { IsReadBack }
-{}

@@ -1,19 +1,17 @@
 //! The whole grammar of a netlist's text.
-ghost use Rattle.std.specs.Prelude.{◌≡◌, ◌≢◌, [], map, All, IfOk, IfErr};
+ghost use Rattle.std.specs.Prelude.{◌≡◌, map, All, IfOk, IfErr};
 ghost use Rattle.std.specs.List.{list_all};
 ghost use Rattle.sr_model.specs.Declaration.{declared, declarations_of, declaration_of};
 ghost use Rattle.sr_model.specs.Room.{texts};
 ghost use Rattle.netlist.specs.Numbering.{IsStatement};
 ghost use Rattle.bench_reader.specs.Grammar.{Spells, States, HasRightPins, Declares, is_short, signal_names};
 ghost use Rattle.bench_reader.specs.Refusal.{IsRefusal, IsLineRefusal, IsFormRefusal};
-ghost use Rattle.bench_reader.specs.Laws.{HasOneReading, IsRefusedOnce, ReadTextsAreNotRefused, IsReadOrRefused, SpellsStatements};
 ghost use Rattle.bench_reader.specs.Found.{form_with};
 
 use crate::form::{Form, read_form};
 use crate::kinds::{is_pin_count, kind_named};
-use bstr::ByteSlice;
 use sr_model::{Bytes, Names, NoMemory, Numbered, Sequence, Statement, Statements};
-use sr_text::cut;
+use sr_text::TextLines;
 use std::alloc::{AllocError, Global};
 
 const MAX_NAME_BYTES: usize = 255;
@@ -57,36 +55,21 @@ pub fn read_bench(alloc: Global, bytes: &[u8]) -> Result<Statements, BenchRefusa
 {
     let mut statements = Sequence::new(alloc);
     let mut pins = Vec::new(alloc);
-    let mut lines = bytes.lines();
-    let mut line: u64 = 0;
-    while let Some(whole) = lines.next() {
-        line += 1;
-        let text = cut(whole);
-        if !text.is_empty() {
-            let statement = read_statement(alloc, text, line, &mut pins)?;
-            statements.push(Numbered { line, statement })?;
-        }
+    let mut lines = TextLines::new(bytes);
+    while let Some((line, text)) = lines.next() {
+        let statement = read_statement(alloc, text, line, &mut pins)?;
+        statements.push(Numbered { line, statement })?;
     }
     Ok(statements)
 }
 
-/// Each text has one reading, or is refused in one way, and never both. What it states are statements that `build` takes.
-pub fn bench_laws()
-    ensures one_reading { HasOneReading }
-    ensures one_refusal { IsRefusedOnce }
-    ensures not_both { ReadTextsAreNotRefused }
-    ensures read_or_refused { IsReadOrRefused }
-    ensures statements { SpellsStatements }
-{}
-
-/// The statement of a cut line that is not empty. The pins are room to read into.
+/// The statement of a cut line. The pins are room to read into.
 fn read_statement<'text>(
     alloc: Global,
     text: &'text [u8],
     line: u64,
     pins: &mut Vec<&'text [u8]>,
 ) -> Result<Statement, BenchRefusal>
-    requires { text.now ≢ [] }
     ensures statement { IfOk result (λ s. States text.now (declaration_of s)) }
     ensures refusal { IfErr result (IsLineRefusal text.now line) }
 {

@@ -6,6 +6,7 @@ use Rattle.std.specs.Fmt.{decimal}
 use Rattle.std.proofs.lemmas.Bool.{true≢false, false≢true, not-true, not-false}
 use Rattle.std.proofs.lemmas.Option.{none-some, same_Some, some_pair_parts}
 use Rattle.std.proofs.lemmas.Slice.Eq.{bytes_eq-Decides}
+use Rattle.sr_model.specs.Limits.{max_cycles}
 use Rattle.dump_reader.specs.Tokens.{HasTwoTokens}
 use Rattle.dump_reader.specs.Grammar.{IsCyclesLine}
 
@@ -80,12 +81,12 @@ number_is text word rest o cycles are is h =
 pub no_number : (text word rest : List ℕ) (o : Option ℕ) → AreTokens text word rest → IsNumberOf rest o → o ≡ None → GivesNone text
 no_number text word rest o are is none cycles h = none-some cycles (sym none ∙ number_is text word rest o cycles are is h)
 
-pub no_count : (text word rest : List ℕ) (o : Option ℕ) (n : ℕ) → AreTokens text word rest → IsNumberOf rest o → o ≡ Some n → (n ≡ 0) ⊎ (8192 < n) → GivesNone text
+pub no_count : (text word rest : List ℕ) (o : Option ℕ) (n : ℕ) → AreTokens text word rest → IsNumberOf rest o → o ≡ Some n → (n ≡ 0) ⊎ (max_cycles < n) → GivesNone text
 no_count text word rest o n are is some outside cycles h =
     let same : n ≡ cycles = same_Some n cycles (sym some ∙ number_is text word rest o cycles are is h) in
     elim outside [ inl e ↦ omega (arith, same, e, h.0.0) | inr lt ↦ omega (arith, same, lt, h.0.1) ]
 
-pub count_given : (text word rest w : List ℕ) (a : Bool) (o : Option ℕ) (n : ℕ) → AreTokens text word rest → w ≡ codes "cycles" → a ≡ not (pointwise eqb word w) → a ≡ false → IsNumberOf rest o → o ≡ Some n → n ≢ 0 → n ≤ 8192
+pub count_given : (text word rest w : List ℕ) (a : Bool) (o : Option ℕ) (n : ℕ) → AreTokens text word rest → w ≡ codes "cycles" → a ≡ not (pointwise eqb word w) → a ≡ false → IsNumberOf rest o → o ≡ Some n → n ≢ 0 → n ≤ max_cycles
     → (cycles : ℕ) → (Some n ≡ Some cycles) ↔ IsCyclesLine cycles text
 count_given text word rest w a o n are is e fails number some low high cycles =
     let word_is : word ≡ codes "cycles" = (bytes_eq-Decides word w).0 (not-false (pointwise eqb word w) (sym e ∙ fails)) ∙ is in

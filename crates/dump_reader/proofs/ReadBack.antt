@@ -9,8 +9,6 @@ use Rattle.std.proofs.lemmas.List.{append-nil, length-append, length-map, take_a
 use Rattle.std.proofs.lemmas.List.Elements.{All-nil, All-cons, All-head, All-tail, All-append, All-push, All-map}
 use Rattle.std.proofs.lemmas.List.Sums.{suffix_len_is, AllPass-from_list_all}
 use Rattle.std.proofs.lemmas.Option.{slice_get-get_or}
-use Rattle.bstr.specs.Text.{lines_of, without_terminator, no_cr}
-use Rattle.bstr.proofs.lemmas.LineLemmas.{lines-nil, lines-append, lines-one}
 use Rattle.sr_text.specs.Text.{is_blank, skip_blanks, drop_end_blanks, cut_line}
 use Rattle.sr_text.specs.Lines.{numbered, with_line_feed}
 use Rattle.sr_text.proofs.lemmas.PrintedLines.{stops, not_blank, IsPrinted, ArePrinted, from_number, numbered_printed}

@@ -5,9 +5,10 @@ use Rattle.std.proofs.lemmas.Bool.{cases_eq, cases_lt}
 use Rattle.dump_reader.specs.declared.refusal.DumpRefusal.{DumpRefusal}
 use Rattle.dump_reader.specs.declared.refusal.DumpRefusal.TheVariants.{Head, Cycles, TooManyCells, NoMemory}
 use Rattle.dump_reader.specs.Recording.{Recording}
+use Rattle.sr_model.specs.Limits.{block_count, max_blocks, max_cycles}
 use Rattle.sr_text.specs.Lines.{numbered, past_end}
 use Rattle.dump_reader.specs.Tokens.{HasTwoTokens}
-use Rattle.dump_reader.specs.Grammar.{IsHead, IsCyclesLine, FailsFirst, Spells, block_count}
+use Rattle.dump_reader.specs.Grammar.{IsHead, IsCyclesLine, FailsFirst, Spells}
 use Rattle.dump_reader.specs.Refusal.{IsRefusal}
 use Rattle.dump_reader.specs.Laws.{IsReadOrRefused}
 use Rattle.dump_reader.proofs.Tokens.{two_or_none, same_tokens}
@@ -30,7 +31,7 @@ tokens_or_not text first second =
     ]
 
 -- a line gives some number of cycles up to n, or none of these
-count_below : (text : List ℕ) (n : ℕ) → n ≤ 8192 → ((cycles : ℕ) × IsCyclesLine cycles text) ⊎ ((cycles : ℕ) → cycles ≤ n → IsCyclesLine cycles text → ⊥)
+count_below : (text : List ℕ) (n : ℕ) → n ≤ max_cycles → ((cycles : ℕ) × IsCyclesLine cycles text) ⊎ ((cycles : ℕ) → cycles ≤ n → IsCyclesLine cycles text → ⊥)
 count_below text zero few = inr (λ cycles le is. let low = is.0.0 in omega arith)
 count_below text (suc n) few =
     elim (count_below text n (omega arith)) [
@@ -45,7 +46,7 @@ count_below text (suc n) few =
     ]
 
 cycles_or_none : (text : List ℕ) → ((cycles : ℕ) × IsCyclesLine cycles text) ⊎ (((cycles : ℕ) × IsCyclesLine cycles text) → ⊥)
-cycles_or_none text = elim (count_below text 8192 (omega arith)) [ inl found ↦ inl found | inr none ↦ inr (λ found. none found.0 found.1.0.1 found.1) ]
+cycles_or_none text = elim (count_below text max_cycles (omega arith)) [ inl found ↦ inl found | inr none ↦ inr (λ found. none found.0 found.1.0.1 found.1) ]
 
 abbrev Outcome : List (List ℕ) → ℕ → List ℕ → Type 0
 Outcome names signals text = ((r : Recording) × Spells names signals text r) ⊎ ((e : DumpRefusal) × IsRefusal names signals text e × (e ≢ NoMemory))
@@ -63,7 +64,7 @@ rows_read names signals text r (line ∷ left) read =
 
 cells_read : (names : List (List ℕ)) (signals : ℕ) (text : List ℕ) (head line : Line) (left : List Line) (cycles : ℕ) → numbered text ≡ head ∷ line ∷ left → IsHead head.1 → IsCyclesLine cycles line.1 → Outcome names signals text
 cells_read names signals text head line left cycles e is_head count =
-    elim (cases_lt 4194304 (block_count signals cycles)) [
+    elim (cases_lt max_blocks (block_count signals cycles)) [
       | inl many ↦ inr (
         TooManyCells line.0 (block_count signals cycles),
         record { cycles = cycles; lines = left; front = record { head = head; cycles_line = line.1; whole = e; is_head = is_head; is_cycles_line = count }; is_product = refl; many = many },

@@ -10,8 +10,9 @@ use Rattle.sr_model.specs.Dump.{Row}
 use Rattle.dump_reader.specs.declared.refusal.DumpRefusal.{DumpRefusal}
 use Rattle.dump_reader.specs.declared.refusal.DumpRefusal.TheVariants.{Head, Cycles, TooManyCells, RowSyntax, UnknownSignal, TwiceNamed, RowLength, BadBit, NoMemory}
 use Rattle.dump_reader.specs.Recording.{Recording, recorded}
+use Rattle.sr_model.specs.Limits.{block_count}
 use Rattle.sr_text.specs.Lines.{numbered, past_end}
-use Rattle.dump_reader.specs.Grammar.{IsHead, IsCyclesLine, FailsFirst, HasFront, HasFittingFront, NamesSignal, NamesNewSignal, StatesRow, StateRows, Spells, IsHeadFault, IsCyclesFault, IsCellsFault, IsSyntaxFault, IsNameFault, IsTwiceFault, IsLengthFault, IsRowFault, bit_read, block_count}
+use Rattle.dump_reader.specs.Grammar.{IsHead, IsCyclesLine, FailsFirst, HasFront, HasFittingFront, NamesSignal, NamesNewSignal, StatesRow, StateRows, Spells, IsHeadFault, IsCyclesFault, IsCellsFault, IsSyntaxFault, IsNameFault, IsTwiceFault, IsLengthFault, IsRowFault, bit_read}
 use Rattle.dump_reader.specs.Refusal.{IsRefusal, IsRowRefusal}
 use Rattle.dump_reader.specs.Laws.{IsRefusedOnce, DumpsAreNotRefused}
 use Rattle.sr_text.proofs.lemmas.FirstFaults.{Line, part, same_cons}

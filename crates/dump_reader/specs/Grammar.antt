@@ -4,21 +4,19 @@ use Rattle.std.specs.List.{All, AllPairs, AllZip, slice_get}
 use Rattle.std.specs.Fmt.{decimal}
 use Rattle.sr_model.specs.declared.cells.Sig.{Sig}
 use Rattle.sr_model.specs.Dump.{Row}
+use Rattle.sr_model.specs.Limits.{block_count, max_blocks}
 use Rattle.dump_reader.specs.Recording.{Recording, IsCount, recorded}
 use Rattle.sr_text.specs.Lines.{FirstFault, numbered, past_end}
+use Rattle.dump_reader.specs.Head.{cycles_word, format, version}
 use Rattle.dump_reader.specs.Tokens.{HasTwoTokens}
 
 -- the first line: its format and version
 abbrev pub IsHead : List ℕ → Type 0
-IsHead text = HasTwoTokens text (codes "srdump") (codes "1")
+IsHead text = HasTwoTokens text format version
 
 -- the line of so many cycles
 abbrev pub IsCyclesLine : ℕ → List ℕ → Type 0
-IsCyclesLine cycles text = IsCount cycles × HasTwoTokens text (codes "cycles") (decimal cycles)
-
--- how many blocks the signals have: a block is up to 64 cycles of one signal
-abbrev pub block_count : ℕ → ℕ → ℕ
-block_count signals cycles = signals * ((cycles + 63) / 64)
+IsCyclesLine cycles text = IsCount cycles × HasTwoTokens text cycles_word (decimal cycles)
 
 -- the bit of a character: 0 or 1, or none for x or X; other bytes have no meaning
 abbrev pub bit_read : ℕ → Option (Option Bool)
@@ -54,7 +52,7 @@ pub record HasFront (text : List ℕ) (number cycles : ℕ) (lines : List (ℕ �
 pub record HasFittingFront (signals : ℕ) (text : List ℕ) (cycles : ℕ) (lines : List (ℕ × List ℕ)) : Type 0 where
   pub number : ℕ
   pub front : HasFront text number cycles lines
-  pub few : block_count signals cycles ≤ 4194304
+  pub few : block_count signals cycles ≤ max_blocks
 
 -- the text is that of a dump with these rows, of a netlist with so many signals and these names
 pub record Spells (names : List (List ℕ)) (signals : ℕ) (text : List ℕ) (r : Recording) : Type 0 where
@@ -85,7 +83,7 @@ pub record IsCellsFault (signals : ℕ) (text : List ℕ) (number product : ℕ)
   pub lines : List (ℕ × List ℕ)
   pub front : HasFront text number cycles lines
   pub is_product : product ≡ block_count signals cycles
-  pub many : 4194304 < product
+  pub many : max_blocks < product
 
 -- the text has not two tokens
 abbrev pub IsSyntaxFault : List ℕ → Type 0

@@ -3,11 +3,12 @@ use Rattle.std.specs.Prelude.{ℕ, ◌≡◌, ◌≢◌, ◌⊎◌, ◌↔◌, �
 use Rattle.std.specs.List.{All, slice_get}
 use Rattle.sr_model.specs.declared.cells.Lit.{Lit}
 use Rattle.sr_model.specs.Dump.{dump_has}
+use Rattle.sr_model.specs.Limits.{block_count, max_blocks}
 use Rattle.netlist.specs.Circuit.{Circuit, IsCircuit}
 use Rattle.dump_reader.specs.declared.refusal.DumpRefusal.{DumpRefusal}
 use Rattle.dump_reader.specs.declared.refusal.DumpRefusal.TheVariants.{NoMemory}
 use Rattle.dump_reader.specs.Recording.{Recording, IsRecording}
-use Rattle.dump_reader.specs.Grammar.{NamesSignal, Spells, bit_read, block_count}
+use Rattle.dump_reader.specs.Grammar.{NamesSignal, Spells, bit_read}
 use Rattle.dump_reader.specs.Refusal.{IsRefusal}
 use Rattle.dump_reader.specs.Print.{printed}
 
@@ -42,4 +43,4 @@ HasLiteralsOfRows = (c : Circuit) (text : List ℕ) (r : Recording) (l : Lit) �
 
 -- the printed text of a recording spells it, where its cells are not too many
 abbrev pub IsReadBack : Type 0
-IsReadBack = (c : Circuit) (r : Recording) → IsCircuit c → IsRecording r → All (λ row. row.sig.0 < length c.drivers) r.rows → block_count (length c.drivers) r.cycles ≤ 4194304 → Spells c.names (length c.drivers) (printed c.names r) r
+IsReadBack = (c : Circuit) (r : Recording) → IsCircuit c → IsRecording r → All (λ row. row.sig.0 < length c.drivers) r.rows → block_count (length c.drivers) r.cycles ≤ max_blocks → Spells c.names (length c.drivers) (printed c.names r) r

@@ -1,4 +1,5 @@
 pub mod Grammar
+pub mod Head
 pub mod Kept
 pub mod Laws
 pub mod Print

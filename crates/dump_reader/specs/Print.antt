@@ -4,6 +4,7 @@ use Rattle.std.specs.List.{flat_map}
 use Rattle.std.specs.Fmt.{decimal}
 use Rattle.sr_text.specs.Lines.{with_line_feed}
 use Rattle.sr_model.specs.Dump.{Row}
+use Rattle.dump_reader.specs.Head.{cycles_word, format, version}
 use Rattle.dump_reader.specs.Recording.{Recording}
 
 -- 0, 1 or x
@@ -18,7 +19,7 @@ row_text names row = slice_index_or names row.sig.0 [] ++ codes " " ++ map bit_c
 
 -- the lines of a dump of a netlist with these names
 abbrev pub printed_lines : List (List ℕ) → Recording → List (List ℕ)
-printed_lines names r = codes "srdump 1" ∷ (codes "cycles " ++ decimal r.cycles) ∷ map (row_text names) r.rows
+printed_lines names r = (format ++ codes " " ++ version) ∷ (cycles_word ++ codes " " ++ decimal r.cycles) ∷ map (row_text names) r.rows
 
 -- each line with its line feed
 abbrev pub printed : List (List ℕ) → Recording → List ℕ

@@ -3,6 +3,7 @@ use Rattle.std.specs.Prelude.{ℕ, ◌≡◌, ◌≢◌, ◌≤◌, Bool, true, 
 use Rattle.std.specs.List.{All, AllPairs}
 use Rattle.sr_model.specs.declared.cells.Sig.{Sig}
 use Rattle.sr_model.specs.Dump.{Row}
+use Rattle.sr_model.specs.Limits.{max_cycles}
 use Rattle.dump_reader.specs.declared.dump.Tri.{Tri}
 use Rattle.dump_reader.specs.declared.dump.Tri.TheVariants.{Zero, One, X}
 
@@ -26,7 +27,7 @@ abbrev pub recorded : List Row → List Sig
 recorded rows = map (λ row. row.sig) rows
 
 abbrev pub IsCount : ℕ → Type 0
-IsCount cycles = (1 ≤ cycles) × (cycles ≤ 8192)
+IsCount cycles = (1 ≤ cycles) × (cycles ≤ max_cycles)
 
 -- 1 to 8,192 cycles, a bit or none for each cycle in each row, and no signal with two rows
 pub record IsRecording (r : Recording) : Type 0 where

@@ -2,6 +2,7 @@
 ghost use Rattle.std.specs.Prelude.{◌≡◌, ◌↔◌, ◌<◌, ◌≤◌, ◌∷◌, ◌++◌, [], ℕ, length, map, Some, OnOk, OnErr, option_map, Contains, IsTrue};
 ghost use Rattle.std.specs.List.{slice_get};
 ghost use Rattle.std.specs.Vec.{vec_len, vec_capacity};
+ghost use Rattle.sr_model.specs.Limits.{max_cycles};
 ghost use Rattle.dump_reader.specs.Kept.{is_marked};
 
 use sr_model::{NoMemory, Sig};
@@ -116,7 +117,7 @@ impl Dump {
         requires { i < length self.now.rows }
         ensures cells { option_map (λ row. row.bits) (slice_get self.now.rows i) ≡ Some (map tri_bit result.now) }
         ensures len { length result.now ≡ self.now.cycles }
-        ensures few { length result.now ≤ 8192 }
+        ensures few { length result.now ≤ max_cycles }
     {
         let cycles = self.cycles as usize;
         let start = i * cycles;

@@ -2,6 +2,7 @@
 #![tactic(auto)]
 
 mod dump;
+mod head;
 mod laws;
 mod lines;
 mod printer;
@@ -12,6 +13,7 @@ mod row;
 mod tests;
 
 pub use dump::{Dump, Tri};
+pub use head::HEAD_START;
 pub use laws::dump_laws;
 pub use printer::print_dump;
 pub use reader::read_dump;

@@ -6,6 +6,7 @@ ghost use Rattle.dump_reader.specs.Recording.{tri_bit};
 ghost use Rattle.dump_reader.specs.Print.{bit_character, printed};
 
 use crate::dump::{Dump, Tri};
+use crate::head::HEAD_START;
 use netlist::Netlist;
 use sr_model::{Bytes, NoMemory, Sequence};
 use sr_text::write_u64;
@@ -20,7 +21,7 @@ pub fn print_dump(alloc: Global, n: &Netlist, d: &Dump) -> Result<Bytes, NoMemor
     ensures { IfOk result (λ text. text.items ≡ printed n.now.names d.now) }
 {
     let mut text = Vec::new(alloc);
-    push_text(&mut text, b"srdump 1\ncycles ")?;
+    push_text(&mut text, HEAD_START)?;
     push_number(&mut text, d.cycles())?;
     for i in 0..d.row_count() {
         push_row(&mut text, n.name(d.row_sig(i)), d.row_bits(i))?;

@@ -1,23 +1,20 @@
 //! Reads a dump.
 ghost use Rattle.std.specs.Prelude.{◌≡◌, ◌↔◌, ◌+◌, ◌<◌, ℕ, IsTrue, List, length, Some, OnOk, IfOk, IfErr, All};
-ghost use Rattle.dump_reader.specs.Recording.{IsCount};
 ghost use Rattle.sr_text.specs.Lines.{past, rest_of};
 ghost use Rattle.dump_reader.specs.Tokens.{HasTwoTokens};
-ghost use Rattle.dump_reader.specs.Grammar.{IsHead, IsCyclesLine, Spells, block_count};
+ghost use Rattle.dump_reader.specs.Grammar.{IsHead, IsCyclesLine, Spells};
 ghost use Rattle.dump_reader.specs.Refusal.{IsRefusal};
 ghost use Rattle.dump_reader.specs.Reading.{ReadsHead, ReadsCycles, IsHeadRefusal, IsCyclesRefusal};
 
 use crate::dump::Dump;
+use crate::head::{CYCLES, FORMAT, VERSION};
 use crate::lines::two_tokens;
 use crate::refusal::DumpRefusal;
 use crate::row::read_row;
 use netlist::Netlist;
+use sr_model::{MAX_BLOCKS, MAX_CYCLES, block_count};
 use sr_text::{TextLines, read_u64};
 use std::alloc::Global;
-
-const MAX_CYCLES: u64 = 8192;
-
-const MAX_BLOCKS: u64 = 4_194_304;
 
 /// The dump of a text: the line `srdump 1`, the line `cycles T` with T from 1 to 8,192, and rows of a signal's name and T characters. The
 /// characters are `0`, `1`, and `x` or `X` for a cell that is not given, from the first cycle on. No signal has two rows.
@@ -80,19 +77,11 @@ pub(crate) fn read_cycles(lines: &mut TextLines, signals: u32) -> Result<u32, Du
     Ok(cycles)
 }
 
-/// How many blocks the signals have, each of up to 64 cycles of one signal.
-fn block_count(signals: u32, cycles: u32) -> u64
-    requires { IsCount cycles }
-    ensures { result ≡ block_count signals cycles }
-{
-    u64::from(signals) * u64::from(cycles.div_ceil(64))
-}
-
 fn is_head(text: &[u8]) -> bool
     ensures { IsTrue result ↔ IsHead text.now }
 {
     match two_tokens(text) {
-        Some((word, version)) => word == b"srdump".as_slice() && version == b"1".as_slice(),
+        Some((word, version)) => word == FORMAT && version == VERSION,
         None => false,
     }
 }
@@ -102,7 +91,7 @@ fn cycles_of(text: &[u8]) -> Option<u32>
     ensures { (cycles : ℕ) → (result ≡ Some cycles) ↔ IsCyclesLine cycles text.now }
 {
     let (word, number) = two_tokens(text)?;
-    if word != b"cycles".as_slice() {
+    if word != CYCLES {
         return None;
     }
     let cycles = read_u64(number)?;

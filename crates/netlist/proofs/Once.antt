@@ -267,9 +267,6 @@ once-push_present ns t here = once-push ns t ∙ add_name-present (once ns) t (h
 pub once-push_absent : (ns : List (List ℕ)) (t : List ℕ) → has ns t ≡ false → once (ns ++ t ∷ []) ≡ once ns ++ t ∷ []
 once-push_absent ns t fails = once-push ns t ∙ add_name-absent (once ns) t (has-once ns t ∙ fails)
 
-pub Contains-only : (ns : List (List ℕ)) (n : List ℕ) → ns ≡ n ∷ [] → Contains ns n
-Contains-only ns n e = subst (λ (ms : List (List ℕ)). Contains ms n) (sym e) (Contains-push [] n)
-
 add_name-longer : (ns : List (List ℕ)) (n : List ℕ) → length ns ≤ length (add_name ns n)
 add_name-longer ns n =
     elim (cases_Bool (has ns n)) [

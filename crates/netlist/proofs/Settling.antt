@@ -14,7 +14,7 @@ use Rattle.sr_model.proofs.lemmas.Members.{All-from_Contains, Contains-here, Con
 use Rattle.netlist.specs.declared.checks.NetRefusal.{NetRefusal}
 use Rattle.netlist.specs.declared.checks.NetRefusal.TheVariants.{TooManySignals, TooManyPins, TwoDrivers, NoDriver, Loop, NoMemory}
 use Rattle.netlist.specs.declared.wiring.Node.{Node}
-use Rattle.netlist.specs.Numbering.{driven_name, drives, driver_by, driver_for, drivers_of, mentions, names_of, pin_names, pins_of, place_in, sig_in, sig_of, stated_driver, HasPinCount}
+use Rattle.netlist.specs.Numbering.{driven_name, drives, driver_by, driver_for, drivers_of, mentions, names_of, pin_names, all_pins, place_in, sig_in, sig_of, stated_driver, HasPinCount}
 use Rattle.netlist.specs.Laws.{NamesHaveNumbers, MentionsHaveNumbers, NamesAreMentioned, NamesDiffer, DriversHavePinCounts}
 use Rattle.netlist.specs.Wiring as wiring
 use Rattle.netlist.specs.Nodes.{driver_of, drivers_from, IsNodeWithin}
@@ -68,12 +68,12 @@ from_names sig ds (n ∷ names) =
 
 -- ---- all nodes
 
-module _ (ds : List Declaration) (names : List (List ℕ)) (nodes : List (Option Node)) (is : names ≡ names_of ds) (holds : HoldsDrivers (pins_of ds) (sig_in names) names ds nodes) where
+module _ (ds : List Declaration) (names : List (List ℕ)) (nodes : List (Option Node)) (is : names ≡ names_of ds) (holds : HoldsDrivers (all_pins ds) (sig_in names) names ds nodes) where
   apart : IsApart names
   apart = subst IsApart (sym is) (once-apart (flat_map mentions ds))
 
   at_name : (t : List ℕ) (node : Option Node) → Contains names t → slice_get nodes (place_in names t) ≡ Some node → is_some node ≡ has (flat_map driven_name ds) t
-  at_name t node member read = node_driven (pins_of ds) (sig_in names) names ds nodes t node holds member (sym (get_or_from_slice_get nodes (place_in names t) node node read))
+  at_name t node member read = node_driven (all_pins ds) (sig_in names) names ds nodes t node holds member (sym (get_or_from_slice_get nodes (place_in names t) node node read))
 
   pub first_undriven : (name : List ℕ) → IsFirstWithout nodes names name → IsFirstUndriven ds name
   first_undriven name h =
@@ -102,15 +102,15 @@ module _ (ds : List Declaration) (names : List (List ℕ)) (nodes : List (Option
         Contains-from_has (flat_map driven_name ds) n (sym (at_name n (Some node.0) member node.1))))
       where
         nodes_long : length nodes ≡ length names
-        nodes_long = sym (length-map nodes (option_map (driver_of (pins_of ds)))) ∙ ap length holds ∙ length-map names (driver_among (sig_in names) ds)
+        nodes_long = sym (length-map nodes (option_map (driver_of (all_pins ds)))) ∙ ap length holds ∙ length-map names (driver_among (sig_in names) ds)
 
     pub all_long : length all ≡ length names
     all_long =
-        sym (length-map all (λ (x : Node). Some x)) ∙ ap length settled ∙ sym (length-map nodes (option_map (driver_of (pins_of ds)))) ∙ ap length holds ∙ length-map names (driver_among (sig_in names) ds)
+        sym (length-map all (λ (x : Node). Some x)) ∙ ap length settled ∙ sym (length-map nodes (option_map (driver_of (all_pins ds)))) ∙ ap length holds ∙ length-map names (driver_among (sig_in names) ds)
 
-    pub all_drivers : drivers_from (pins_of ds) all ≡ drivers_of ds
+    pub all_drivers : drivers_from (all_pins ds) all ≡ drivers_of ds
     all_drivers =
-        sym (from_nodes (pins_of ds) all) ∙ ap (λ ns. map input_or (map (option_map (driver_of (pins_of ds))) ns)) settled ∙ ap (map input_or) holds ∙ from_names (sig_in names) ds names
+        sym (from_nodes (all_pins ds) all) ∙ ap (λ ns. map input_or (map (option_map (driver_of (all_pins ds))) ns)) settled ∙ ap (map input_or) holds ∙ from_names (sig_in names) ds names
         ∙ ap (λ (ns : List (List ℕ)). map (λ name. driver_by (sig_in ns) (find (drives name) ds)) ns) is
 
     pub all_within : (n : ℕ) → AreWithin n nodes → All (IsNodeWithin n) all
@@ -119,16 +119,16 @@ module _ (ds : List Declaration) (names : List (List ℕ)) (nodes : List (Option
         (within k (Some d) (omega (arith, lt, ap length settled, length-map all (λ (x : Node). Some x))))
 
 -- every pin is a signal
-pub pins_below : (ds : List Declaration) (names : List (List ℕ)) → names ≡ names_of ds → All (λ (pin : Sig). pin.0 < length names) (pins_of ds)
+pub pins_below : (ds : List Declaration) (names : List (List ℕ)) → names ≡ names_of ds → All (λ (pin : Sig). pin.0 < length names) (all_pins ds)
 pins_below ds names is =
-    subst (λ (ns : List (List ℕ)). All (λ (pin : Sig). pin.0 < length ns) (pins_of ds)) (sym is)
+    subst (λ (ns : List (List ℕ)). All (λ (pin : Sig). pin.0 < length ns) (all_pins ds)) (sym is)
     (All-map (λ (pin : Sig). pin.0 < length (names_of ds)) (sig_of ds) (flat_map pin_names ds)
     (All-from_Contains (λ n. place_in (names_of ds) n < length (names_of ds)) (flat_map pin_names ds)
     (λ n h. place_in-lt (names_of ds) n (Contains-once (flat_map mentions ds) n (all_mentioned pin_names pins_mentioned ds n h)))))
 
 -- a refusal for want of a node is that of the rule
 pub lack_refused : (ds : List (ℕ × Declaration)) (names : List (List ℕ)) (nodes : List (Option Node)) (r : NetRefusal) → names ≡ names_of (without_lines ds)
-    → HoldsDrivers (pins_of (without_lines ds)) (sig_in names) names (without_lines ds) nodes → HasFewSignals (without_lines ds) → HasFewPins (without_lines ds) → IsDrivenOnce (without_lines ds) → IsLack nodes names r → IsRefusal ds r
+    → HoldsDrivers (all_pins (without_lines ds)) (sig_in names) names (without_lines ds) nodes → HasFewSignals (without_lines ds) → HasFewPins (without_lines ds) → IsDrivenOnce (without_lines ds) → IsLack nodes names r → IsRefusal ds r
 lack_refused ds names nodes (TooManySignals line) is holds few_signals few_pins once lack = absurd lack
 lack_refused ds names nodes (TooManyPins line) is holds few_signals few_pins once lack = absurd lack
 lack_refused ds names nodes (TwoDrivers line) is holds few_signals few_pins once lack = absurd lack

@@ -68,8 +68,8 @@ abbrev pub outputs_of : List Declaration → List Sig
 outputs_of ds = map (sig_of ds) (once (flat_map output_name ds))
 
 -- the signals of all pins, in order
-abbrev pub pins_of : List Declaration → List Sig
-pins_of ds = map (sig_of ds) (flat_map pin_names ds)
+abbrev pub all_pins : List Declaration → List Sig
+all_pins ds = map (sig_of ds) (flat_map pin_names ds)
 
 -- whether a statement drives the name
 abbrev pub drives : List ℕ → Declaration → Bool

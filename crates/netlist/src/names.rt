@@ -134,13 +134,3 @@ impl NameTable {
         self.names[number].as_slice()
     }
 }
-
-/// A copy of a name.
-pub(crate) fn to_bytes(alloc: Global, name: &[u8]) -> Result<Bytes, NoMemory>
-    ensures { IfOk result (λ bytes. bytes.items ≡ name.now) }
-{
-    match Vec::from_slice(alloc, name) {
-        Ok(bytes) => Ok(Sequence::from_vec(bytes)),
-        Err(AllocError) => Err(NoMemory),
-    }
-}

@@ -10,10 +10,10 @@ ghost use Rattle.netlist.specs.Wiring.{driver_at, kind_of, pins_of, readers, oth
 
 use crate::checks::NetRefusal;
 use crate::loops::{Loop, gate_order};
-use crate::names::{NameTable, to_bytes};
+use crate::names::NameTable;
 use crate::numbers::number;
 use crate::wiring::Wiring;
-use sr_model::{Kind, Sig, Statements};
+use sr_model::{Kind, Sig, Statements, to_bytes};
 use std::alloc::Global;
 use std::marker::Model;
 

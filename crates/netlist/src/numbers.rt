@@ -3,16 +3,18 @@ ghost use Rattle.std.specs.Prelude.{◌≡◌, ◌<◌, ◌≤◌, [], ◌∷◌
 ghost use Rattle.std.specs.List.{flat_map};
 ghost use Rattle.sr_model.specs.Limits.{max_pins, max_signals};
 ghost use Rattle.sr_model.specs.Declaration.{declared, declarations_of, declaration_of};
-ghost use Rattle.netlist.specs.Numbering.{names_of, sig_in, sig_of, driven_name, pin_names, inputs_of, outputs_of, pins_of, drivers_of, HasPinCount};
+ghost use Rattle.netlist.specs.Numbering.{names_of, sig_in, sig_of, driven_name, pin_names, inputs_of, outputs_of, all_pins, drivers_of, HasPinCount};
 ghost use Rattle.netlist.specs.Mentions.{first_mention};
 ghost use Rattle.netlist.specs.Checks.{HasFewSignals, HasFewPins, IsDrivenOnce, IsAccepted, IsRefusal};
 ghost use Rattle.netlist.specs.Driving.{node_at, HoldsDrivers, AreWithin, IsLack};
 ghost use Rattle.netlist.specs.Nodes.{driver_of, drivers_from, IsNodeWithin};
 
 use crate::checks::NetRefusal;
-use crate::names::{NameTable, to_bytes};
+use crate::names::NameTable;
 use crate::wiring::Node;
-use sr_model::{MAX_PINS, MAX_SIGNALS, NoMemory, Sequence, Sig, Sigs, Statement, Statements};
+use sr_model::{
+    MAX_PINS, MAX_SIGNALS, NoMemory, Sequence, Sig, Sigs, Statement, Statements, to_bytes,
+};
 use std::alloc::Global;
 
 /// The names of a text, each with its number, and what its statements say of their signals.
@@ -56,7 +58,7 @@ fn number_names(alloc: Global, s: &Statements) -> Result<Mentions, NetRefusal>
     requires { All HasPinCount (declared s.now) }
     ensures names { IfOk result (λ m. m.names ≡ names_of (declared s.now)) }
     ensures firsts { IfOk result (λ m. m.firsts.items ≡ map (λ d. sig_in m.names (first_mention d)) (declared s.now)) }
-    ensures pins { IfOk result (λ m. m.pins.items ≡ pins_of (declared s.now)) }
+    ensures pins { IfOk result (λ m. m.pins.items ≡ all_pins (declared s.now)) }
     ensures few { OnOk result (HasFewSignals (declared s.now)) }
     ensures refused { IfErr result (IsRefusal (declarations_of s.now)) }
 {
@@ -144,8 +146,8 @@ fn drive(
     requires few_signals { HasFewSignals (declared s.now) }
     requires few_pins { HasFewPins (declared s.now) }
     requires pin_counts { All HasPinCount (declared s.now) }
-    ensures drivers { IfOk result (λ nodes. HoldsDrivers (pins_of (declared s.now)) (sig_in names.now) names.now (declared s.now) nodes.items) }
-    ensures within { IfOk result (λ nodes. AreWithin (length (pins_of (declared s.now))) nodes.items) }
+    ensures drivers { IfOk result (λ nodes. HoldsDrivers (all_pins (declared s.now)) (sig_in names.now) names.now (declared s.now) nodes.items) }
+    ensures within { IfOk result (λ nodes. AreWithin (length (all_pins (declared s.now))) nodes.items) }
     ensures once { OnOk result (IsDrivenOnce (declared s.now)) }
     ensures refused { IfErr result (IsRefusal (declarations_of s.now)) }
 {

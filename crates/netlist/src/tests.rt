@@ -4,9 +4,8 @@ mod ranking;
 mod reading;
 mod refusals;
 
-use crate::names::to_bytes;
 use crate::{NetRefusal, Netlist, are_statements, build};
-use sr_model::{Kind, Names, NoMemory, Numbered, Statement, Statements};
+use sr_model::{Kind, Names, NoMemory, Numbered, Statement, Statements, to_bytes};
 use std::alloc::Global;
 use std::process::Abort;
 use std::test::Fail;

@@ -5,10 +5,10 @@ use Rattle.std.proofs.lemmas.Bool.{cases_Bool}
 use Rattle.sr_model.specs.declared.cells.Cell.{Cell}
 use Rattle.sr_model.specs.declared.cells.Lit.{Lit}
 use Rattle.sr_model.specs.AndLike.{IsAndLike}
-use Rattle.sr_model.specs.Netlist.{Instance, Valuation, IsRow}
+use Rattle.sr_model.specs.Netlist.{cell_eq, Instance, Valuation, IsRow}
 use Rattle.sr_model.specs.Closure.{Forces, passing, lit}
 use Rattle.sr_model.proofs.lemmas.Members.{Contains-here, Contains-there}
-use Rattle.sr_model.proofs.Rows.{cell_eq, put, put-at, put-other, row_with, known_forced}
+use Rattle.sr_model.proofs.Rows.{put, put-at, put-other, row_with, known_forced}
 use Rattle.sr_model.proofs.AndLike.{one_not_p, pin_apart, row_p, p_at_pin, target_t, target_other, pin_p, pin_other, pin_other-rest, target_t-from, target_other-from, pin_p-from, pin_other-from}
 
 -- a literal is forced: it is known, or else something that follows where it is not

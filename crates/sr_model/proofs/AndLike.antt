@@ -8,22 +8,10 @@ use Rattle.sr_model.specs.declared.cells.Cell.{Cell}
 use Rattle.sr_model.specs.declared.cells.Lit.{Lit}
 use Rattle.sr_model.specs.AndLike.{all_have, IsAndLike}
 use Rattle.sr_model.specs.Gate.{value}
-use Rattle.sr_model.specs.Netlist.{Instance, cells_of, Valuation, IsRow, Has}
+use Rattle.sr_model.specs.Netlist.{cell_eq, Instance, cells_of, Valuation, IsRow, Has}
 use Rattle.sr_model.specs.Closure.{Forces, passing, lit}
 use Rattle.sr_model.proofs.lemmas.Members.{Contains-here, Contains-there, Contains-map, All-one, filter-member, filter-passes, filter-has, list_all-at, list_all-from, list_all-fails, list_any-from, list_any-found, All-from_Contains}
-use Rattle.sr_model.proofs.Rows.{cell_eq, cell_cases, cell_eq-true, cell_eq-itself, cell_eq-swap, put, put-at, put-other, Keeps, Keeps-itself, Keeps-put, Forces-row, row_with}
-
-pub beq-true : (a b : Bool) → beq a b ≡ true → a ≡ b
-beq-true true true e = refl
-beq-true true false e = cc
-beq-true false true e = cc
-beq-true false false e = refl
-
-pub beq-false : (a b : Bool) → beq a b ≡ false → a ≡ not b
-beq-false true true e = cc
-beq-false true false e = refl
-beq-false false true e = refl
-beq-false false false e = cc
+use Rattle.sr_model.proofs.Rows.{cell_cases, cell_eq-true, cell_eq-itself, cell_eq-swap, put, put-at, put-other, Keeps, Keeps-itself, Keeps-put, Forces-row, row_with}
 
 pub beq-same : (a b : Bool) → a ≡ b → beq a b ≡ true
 beq-same true true e = refl

@@ -8,10 +8,10 @@ use Rattle.sr_model.specs.declared.cells.Cell.{Cell}
 use Rattle.sr_model.specs.declared.cells.Lit.{Lit}
 use Rattle.sr_model.specs.declared.cells.Place.{Place}
 use Rattle.sr_model.specs.Gate.{value}
-use Rattle.sr_model.specs.Netlist.{Input, Driven, Unrolled, Instance, instance_at, cells_of, Valuation, IsRow, Has}
+use Rattle.sr_model.specs.Netlist.{cell_eq, Input, Driven, Unrolled, Instance, instance_at, cells_of, Valuation, IsRow, Has}
 use Rattle.sr_model.specs.Closure.{Forces, ForcesAt, ForcesSomewhere, passing, lit}
 use Rattle.sr_model.proofs.lemmas.Members.{Contains-here, Contains-there, map-agree, All-from_Contains, Contains-map, filter-member, filter-passes, filter-has, map-member}
-use Rattle.sr_model.proofs.Rows.{cell_eq, cell_eq-itself, cell_cases}
+use Rattle.sr_model.proofs.Rows.{cell_eq-itself, cell_cases}
 use Rattle.sr_model.proofs.lemmas.Instances.{Stands, stands}
 use Rattle.sr_model.proofs.Decided.{Decided, decided_both, decided_then, decided_not, decided_as, decided_bit, decided_some, decided_all, decided_below, decided_valuation}
 

@@ -1,33 +1,32 @@
 -- What is forced where nothing is known: the target of a parity gate each of whose signals stands an even number of times.
-use Rattle.std.proofs.Common.{◌≡◌, ◌⊎◌, ℕ, ◌+◌, ◌≤◌, Bool, true, false, List, [], ◌∷◌, length, map, arith, inl, inr, sym, subst, refl, ◌∙◌}
+use Rattle.std.proofs.Common.{◌≡◌, ℕ, ◌+◌, ◌≤◌, Bool, true, false, List, [], ◌∷◌, length, map, arith, inl, inr, sym, subst, refl, ◌∙◌}
 use Rattle.std.specs.List.{Contains}
 use Rattle.std.proofs.lemmas.Bool.{true≢false, false≢true, cases_Bool}
 use Rattle.std.proofs.lemmas.List.{length-map}
 use Rattle.sr_model.specs.declared.gates.Family.{Family}
 use Rattle.sr_model.specs.declared.gates.Family.TheVariants.{AndLike, Parity}
 use Rattle.sr_model.specs.declared.gates.Kind.{Kind}
-use Rattle.sr_model.specs.declared.gates.Kind.TheVariants.{And, Nand, Or, Nor, Xor, Xnor, Not, Buf, Dff}
 use Rattle.sr_model.specs.declared.cells.Sig.{Sig}
 use Rattle.sr_model.specs.declared.cells.Cell.{Cell}
 use Rattle.sr_model.specs.declared.cells.Lit.{Lit}
 use Rattle.sr_model.specs.declared.cells.Place.{Place}
 use Rattle.sr_model.specs.AndLike.{IsAndLike}
 use Rattle.sr_model.specs.Gate.{family_of, IsPinCount}
-use Rattle.sr_model.specs.Netlist.{Instance, cells_of, cell_at, delay}
+use Rattle.sr_model.specs.Netlist.{cell_eq, Instance, cells_of, cell_at, delay}
 use Rattle.sr_model.specs.KindLaws.{IsOfFamily}
 use Rattle.sr_model.specs.Closure.{Forces, passing, lit}
 use Rattle.sr_model.specs.Worked.{nothing}
 use Rattle.sr_model.specs.XorLike.{is_odd, IsXorLike}
 use Rattle.sr_model.proofs.lemmas.Instances.{instance_of}
 use Rattle.sr_model.proofs.lemmas.Members.{Contains-cases, Contains-here}
-use Rattle.sr_model.proofs.Rows.{cell_eq, cell_cases, cell_eq-swap}
+use Rattle.sr_model.proofs.Rows.{cell_cases, cell_eq-swap}
 use Rattle.sr_model.proofs.AndLike.{bit_cases, target_t, target_other, pin_p, pin_other}
 use Rattle.sr_model.proofs.OddCells.{target_odd, pin_odd}
 use Rattle.sr_model.proofs.OddPins.{AllEven, IsApartFrom, all_even-from, all_even-cells}
-use Rattle.sr_model.proofs.XorLike.{XorForces, is_odd-member, xor_forces}
+use Rattle.sr_model.specs.RuleLaws.{XorForces}
+use Rattle.sr_model.proofs.XorLike.{is_odd-member, xor_forces}
 use Rattle.sr_model.proofs.XorChoice.{xor_lone-exact, no_others}
 use Rattle.sr_model.proofs.KindLaws.{has_its_family, some_pins}
-use Rattle.sr_model.proofs.Families.{and_family, nand_family, or_family, nor_family, not_family, buf_family, dff_family, xor_family, xnor_family}
 
 -- an and-like gate with a pin forces nothing from nothing
 pub and_forces_nothing : (p t : Bool) (i : Instance) → IsAndLike p t i → (Contains i.pins i.target → ⊥) → (c : Cell) → Contains i.pins c → (l : Lit) → Forces i (passing nothing) l → ⊥
@@ -81,9 +80,6 @@ has_pin cycle (pin ∷ pins) some = (cell_at cycle pin, Contains-here (cell_at c
 abbrev pub HasParity : Kind → Type 0
 HasParity kind = (inverted : Bool) × (family_of kind ≡ Parity inverted)
 
-abbrev pub IsParity : Kind → Type 0
-IsParity kind = (kind ≡ Xor) ⊎ (kind ≡ Xnor)
-
 module _ (pins : List Sig) (p : Place) where
   and_none : (kind : Kind) (a t : Bool) → IsAndLike a t (instance_of kind pins p) → IsApartFrom kind pins p → 1 ≤ length pins → (l : Lit) → Forces (instance_of kind pins p) (passing nothing) l → ⊥
   and_none kind a t and_like apart some l f =
@@ -110,23 +106,3 @@ module _ (pins : List Sig) (p : Place) where
   even_forces kind inverted e count apart even known =
       let xor_like : IsXorLike inverted (instance_of kind pins p) = subst (λ family. IsOfFamily family (instance_of kind pins p)) e (of_family kind count) in
       xor_forces_target inverted (instance_of kind pins p) xor_like apart (all_even-cells p.cycle pins even) known
-
-  -- only a parity gate forces something from nothing, and only where each signal stands an even number of times
-  pub forces_nothing : (kind : Kind) → IsPinCount kind (length pins) → IsApartFrom kind pins p → (l : Lit) → Forces (instance_of kind pins p) (passing nothing) l
-      → IsParity kind × AllEven pins
-  forces_nothing And count apart l f = absurd (and_none And true true (and_family pins p) apart count.0 l f)
-  forces_nothing Nand count apart l f = absurd (and_none Nand true false (nand_family pins p) apart count.0 l f)
-  forces_nothing Or count apart l f = absurd (and_none Or false false (or_family pins p) apart count.0 l f)
-  forces_nothing Nor count apart l f = absurd (and_none Nor false true (nor_family pins p) apart count.0 l f)
-  forces_nothing Xor count apart l f = (inl refl, all_even-from p.cycle pins (xor_forces_nothing false (instance_of Xor pins p) (xor_family pins p) apart l f))
-  forces_nothing Xnor count apart l f = (inr refl, all_even-from p.cycle pins (xor_forces_nothing true (instance_of Xnor pins p) (xnor_family pins p) apart l f))
-  forces_nothing Not count apart l f = absurd (and_none Not true false (not_family pins p count) apart (omega (arith, count)) l f)
-  forces_nothing Buf count apart l f = absurd (and_none Buf true true (buf_family pins p count) apart (omega (arith, count)) l f)
-  forces_nothing Dff count apart l f = absurd (and_none Dff true true (dff_family pins p count) apart (omega (arith, count)) l f)
-
-  -- conversely such a gate forces its target, whatever is known
-  pub xor_forces_even : IsApartFrom Xor pins p → AllEven pins → (known : Lit → Bool) → Forces (instance_of Xor pins p) (passing known) (lit (cell_at (p.cycle + 0) p.target) false)
-  xor_forces_even apart even known = xor_forces_target false (instance_of Xor pins p) (xor_family pins p) apart (all_even-cells p.cycle pins even) known
-
-  pub xnor_forces_even : IsApartFrom Xnor pins p → AllEven pins → (known : Lit → Bool) → Forces (instance_of Xnor pins p) (passing known) (lit (cell_at (p.cycle + 0) p.target) true)
-  xnor_forces_even apart even known = xor_forces_target true (instance_of Xnor pins p) (xnor_family pins p) apart (all_even-cells p.cycle pins even) known

@@ -1,11 +1,9 @@
 mod AndExact
-mod AndKinds
 mod AndLike
 mod ClosureLaws
 mod Decided
 mod DecidedForcing
 mod DecidedLevels
-mod Families
 mod FirstClash
 mod Forcing
 mod FromNothing

@@ -11,7 +11,7 @@ use Rattle.sr_model.specs.Closure.{Forces, Closure, IsClosed, passing, lit}
 use Rattle.sr_model.specs.Worked.{sig, cell, missed, nothing}
 use Rattle.sr_model.proofs.lemmas.Members.{not_in_nil, Contains-cases, Contains-here}
 use Rattle.sr_model.proofs.FromNothing.{and_forces_nothing}
-use Rattle.sr_model.proofs.AndKinds.{not_is, or_gate_is}
+use Rattle.sr_model.proofs.KindLaws.{has_its_family}
 use Rattle.sr_model.proofs.ClosureLaws.{least}
 use Rattle.sr_model.proofs.lemmas.Instances.{stands, Stands, instance_of}
 
@@ -35,7 +35,7 @@ none_for (suc zero) p i at s l f =
     let not_here : i ≡ instance_of Not (sig 0 ∷ []) p = cc (s.is, e) in
     let pin : Cell = cell_at p.cycle (sig 0) in
     let g : Forces (instance_of Not (sig 0 ∷ []) p) (passing nothing) l = subst (λ j. Forces j (passing nothing) l) not_here f in
-    and_forces_nothing true false (instance_of Not (sig 0 ∷ []) p) (not_is (cell_at (p.cycle + 0) p.target) pin)
+    and_forces_nothing true false (instance_of Not (sig 0 ∷ []) p) (has_its_family (instance_of Not (sig 0 ∷ []) p) refl)
     (λ h. elim (Contains-cases pin [] (cell_at (p.cycle + 0) p.target) h) [
       | inl e ↦ let same : 0 ≡ p.target.0 = ap (λ c. c.sig.0) e in omega arith
       | inr h ↦ not_in_nil (cell_at (p.cycle + 0) p.target) h
@@ -47,7 +47,7 @@ none_for (suc (suc zero)) p i at s l f =
     let a : Cell = cell_at p.cycle (sig 0) in
     let b : Cell = cell_at p.cycle (sig 1) in
     let g : Forces (instance_of Or pins p) (passing nothing) l = subst (λ j. Forces j (passing nothing) l) or_here f in
-    and_forces_nothing false false (instance_of Or pins p) (or_gate_is (cell_at (p.cycle + 0) p.target) (a ∷ b ∷ []))
+    and_forces_nothing false false (instance_of Or pins p) (has_its_family (instance_of Or pins p) (omega arith, omega arith))
     (λ h. elim (Contains-cases a (b ∷ []) (cell_at (p.cycle + 0) p.target) h) [
       | inl e ↦ let same : 0 ≡ p.target.0 = ap (λ c. c.sig.0) e in omega arith
       | inr h ↦ elim (Contains-cases b [] (cell_at (p.cycle + 0) p.target) h) [

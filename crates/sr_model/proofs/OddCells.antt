@@ -4,10 +4,10 @@ use Rattle.std.specs.List.{Contains, AllPairs, filter}
 use Rattle.std.proofs.lemmas.Bool.{cases_Bool, true≢false, not-true, not_from_false}
 use Rattle.std.proofs.lemmas.List.Kept.{AllPairs-filter}
 use Rattle.sr_model.specs.declared.cells.Cell.{Cell}
-use Rattle.sr_model.specs.Netlist.{Instance, cells_of, Valuation}
+use Rattle.sr_model.specs.Netlist.{cell_eq, Instance, cells_of, Valuation}
 use Rattle.sr_model.specs.XorLike.{plus, parity, is_odd}
 use Rattle.sr_model.proofs.lemmas.Members.{not_in_nil, Contains-cases, filter-member, filter-passes, filter-has}
-use Rattle.sr_model.proofs.Rows.{cell_eq, cell_cases, cell_eq-itself, cell_eq-swap}
+use Rattle.sr_model.proofs.Rows.{cell_cases, cell_eq-itself, cell_eq-swap}
 use Rattle.sr_model.proofs.Parity.{plus_same, plus_itself, parity-none}
 use Rattle.sr_model.proofs.XorLike.{is_odd-member}
 

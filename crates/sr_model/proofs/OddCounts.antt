@@ -5,13 +5,13 @@ use Rattle.std.proofs.lemmas.Bool.{cases_Bool, and_parts, and_from, or_cases, or
 use Rattle.std.proofs.lemmas.List.Sums.{sum_by-cons}
 use Rattle.sr_model.specs.declared.cells.Cell.{Cell}
 use Rattle.sr_model.specs.declared.cells.Lit.{Lit}
-use Rattle.sr_model.specs.Netlist.{Instance, Valuation}
+use Rattle.sr_model.specs.Netlist.{cell_eq, Instance, Valuation}
 use Rattle.sr_model.specs.XorLike.{plus, parity}
 use Rattle.sr_model.proofs.lemmas.Members.{not_in_nil, Contains-here, Contains-there}
-use Rattle.sr_model.proofs.Rows.{cell_eq, cell_cases, cell_eq-itself}
+use Rattle.sr_model.proofs.Rows.{cell_cases, cell_eq-itself}
 use Rattle.sr_model.proofs.Parity.{plus_swap}
 use Rattle.sr_model.proofs.OddCells.{Contains-later, AreOdd, others_of}
-use Rattle.sr_model.proofs.XorLike.{XorForces}
+use Rattle.sr_model.specs.RuleLaws.{XorForces}
 use Rattle.sr_model.proofs.XorChoice.{some_known, both_known, known_bit, OthersForce, xor_choice}
 
 count_one : (test : Cell → Bool) (x : Cell) (xs : List Cell) → test x ≡ true → count_by test (x ∷ xs) ≡ 1 + count_by test xs

@@ -5,9 +5,9 @@ use Rattle.std.proofs.lemmas.Bool.{cases_Bool, eqb-true, eqb-false, eq-eqb, ne_e
 use Rattle.std.proofs.lemmas.List.Sums.{sum_by-cons}
 use Rattle.sr_model.specs.declared.cells.Cell.{Cell}
 use Rattle.sr_model.specs.Gate.{odd_one}
-use Rattle.sr_model.specs.Netlist.{Valuation}
+use Rattle.sr_model.specs.Netlist.{cell_eq, Valuation}
 use Rattle.sr_model.specs.XorLike.{plus, parity, is_odd}
-use Rattle.sr_model.proofs.Rows.{cell_eq, cell_eq-true, cell_cases, cell_eq-itself, cell_eq-swap, put, put-at, put-other}
+use Rattle.sr_model.proofs.Rows.{cell_eq-true, cell_cases, cell_eq-itself, cell_eq-swap, put, put-at, put-other}
 
 odd_more : (n : ℕ) → eqb ((1 + n) % 2) 1 ≡ not (eqb (n % 2) 1)
 odd_more n =

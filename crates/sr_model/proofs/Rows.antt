@@ -1,17 +1,14 @@
 -- What a set of literals forces at one instance, by a row of it.
-use Rattle.std.proofs.Common.{◌≡◌, ◌⊎◌, ◌&&◌, Bool, true, false, cond, [], ◌∷◌, map, eqb, inl, inr, sym, subst, refl, ap, ◌∙◌}
+use Rattle.std.proofs.Common.{◌≡◌, ◌⊎◌, Bool, true, false, cond, [], ◌∷◌, map, eqb, inl, inr, sym, subst, refl, ap, ◌∙◌}
 use Rattle.std.specs.List.{Contains}
 use Rattle.std.proofs.lemmas.Bool.{eqb-true, eq-eqb, and_parts, and_from, cases_Bool, true≢false, cond-true, cond-false}
 use Rattle.std.proofs.lemmas.List.Elements.{All-contains, All-head}
 use Rattle.sr_model.specs.declared.cells.Cell.{Cell}
 use Rattle.sr_model.specs.declared.cells.Lit.{Lit}
 use Rattle.sr_model.specs.Gate.{value}
-use Rattle.sr_model.specs.Netlist.{Instance, cells_of, Valuation, IsRow, Has}
+use Rattle.sr_model.specs.Netlist.{Instance, cell_eq, cells_of, Valuation, IsRow, Has}
 use Rattle.sr_model.specs.Closure.{Forces, passing, lit}
 use Rattle.sr_model.proofs.lemmas.Members.{map-agree, All-one, All-from_Contains}
-
-abbrev pub cell_eq : Cell → Cell → Bool
-cell_eq a b = eqb a.cycle b.cycle && eqb a.sig.0 b.sig.0
 
 pub cell_eq-true : (a b : Cell) → cell_eq a b ≡ true → a ≡ b
 cell_eq-true a b e =

@@ -4,16 +4,16 @@ use Rattle.std.specs.List.{Contains, list_all, list_any}
 use Rattle.std.proofs.lemmas.Bool.{cases_Bool, true≢false, and_parts, and_from, or_cases, or_left, or_right}
 use Rattle.sr_model.specs.declared.cells.Cell.{Cell}
 use Rattle.sr_model.specs.declared.cells.Lit.{Lit}
-use Rattle.sr_model.specs.Netlist.{Instance, cells_of, Valuation}
+use Rattle.sr_model.specs.Netlist.{cell_eq, Instance, cells_of, Valuation}
 use Rattle.sr_model.specs.Closure.{Forces, passing, lit}
 use Rattle.sr_model.specs.XorLike.{plus, parity, is_odd, IsXorLike}
 use Rattle.sr_model.proofs.lemmas.Members.{not_in_nil, list_all-at, list_all-from, list_any-from, list_any-found}
-use Rattle.sr_model.proofs.Rows.{cell_eq, cell_cases, put, put-at, put-other, Keeps-itself, Forces-row}
+use Rattle.sr_model.proofs.Rows.{cell_cases, put, put-at, put-other, Keeps-itself, Forces-row}
 use Rattle.sr_model.proofs.AndLike.{bit_cases}
 use Rattle.sr_model.proofs.Parity.{parity-turn, parity-agree}
 use Rattle.sr_model.proofs.OddCells.{plus_false, once_odd, AreOthers, parity-others}
-use Rattle.sr_model.proofs.XorLike.{XorForces, is_odd-member, twice, balanced_row, xor_forces-from}
-use Rattle.sr_model.proofs.XorExact.{xor_odd-exact}
+use Rattle.sr_model.specs.RuleLaws.{XorForces}
+use Rattle.sr_model.proofs.XorLike.{is_odd-member, twice, balanced_row, xor_forces-from}
 
 -- some literal of the cell is known, and both are
 abbrev pub some_known : (Lit → Bool) → Cell → Bool
@@ -138,15 +138,6 @@ module _ (inverted : Bool) (i : Instance) (known : Lit → Bool) (l : Lit) (othe
     -- the others' known bits leave the literal alone exactly if each has one, and some has both or they settle it
     pub xor_choice : XorForces inverted i known l ↔ OthersForce inverted others known l.bit
     xor_choice = (others_force, from_others)
-
-    -- a cell that stands an odd number of times, as others do
-    pub xor_others-exact : IsXorLike inverted i → (d : Cell) → Contains others d → Forces i (passing known) l ↔ ((known l ≡ true) ⊎ OthersForce inverted others known l.bit)
-    xor_others-exact xor_like d h =
-        let exact : Forces i (passing known) l ↔ ((known l ≡ true) ⊎ XorForces inverted i known l) =
-        xor_odd-exact inverted i xor_like known l d odd (are.odd d h) (are.differs d h) in (
-          λ f. elim (exact.0 f) [ inl holds ↦ inl holds | inr x ↦ inr (others_force x) ],
-          λ g. elim g [ inl holds ↦ exact.1 (inl holds) | inr x ↦ exact.1 (inr (from_others x)) ],
-        )
 
 -- no other cell stands an odd number of times
 pub no_others : (i : Instance) (c : Cell) → ((d : Cell) → is_odd d (cells_of i) ≡ true → cell_eq d c ≡ false → ⊥) → AreOthers i c []

@@ -4,14 +4,15 @@ use Rattle.std.specs.List.{Contains}
 use Rattle.std.proofs.lemmas.Bool.{cases_Bool, true≢false}
 use Rattle.sr_model.specs.declared.cells.Cell.{Cell}
 use Rattle.sr_model.specs.declared.cells.Lit.{Lit}
-use Rattle.sr_model.specs.Netlist.{Instance, cells_of, Valuation, IsRow, Has}
+use Rattle.sr_model.specs.Netlist.{cell_eq, Instance, cells_of, Valuation, IsRow, Has}
 use Rattle.sr_model.specs.Closure.{Forces, passing}
 use Rattle.sr_model.specs.XorLike.{plus, parity, is_odd, IsXorLike}
-use Rattle.sr_model.proofs.Rows.{cell_eq, cell_cases, cell_eq-swap, put, put-at, put-other, Keeps-itself, Forces-row, known_forced}
+use Rattle.sr_model.proofs.Rows.{cell_cases, cell_eq-swap, put, put-at, put-other, known_forced}
 use Rattle.sr_model.proofs.AndLike.{bit_cases}
 use Rattle.sr_model.proofs.Parity.{parity-turn}
 use Rattle.sr_model.proofs.OddCells.{target_odd}
-use Rattle.sr_model.proofs.XorLike.{XorForces, is_odd-member, twice, row_balanced, xor_forces, xor_forces-from}
+use Rattle.sr_model.specs.RuleLaws.{XorForces}
+use Rattle.sr_model.proofs.XorLike.{is_odd-member, twice, row_balanced, xor_forces, xor_forces-from}
 
 module _ (inverted : Bool) (i : Instance) (xor_like : IsXorLike inverted i) where
   -- where another cell stands an odd number of times, some row has the literal
@@ -37,22 +38,6 @@ module _ (inverted : Bool) (i : Instance) (xor_like : IsXorLike inverted i) wher
       ])
 
   module _ (known : Lit → Bool) where
-    -- forced is what is known and in some row, and what the known bits of the cells that stand an odd number of times leave alone
-    pub xor-exact : (l : Lit) → Forces i (passing known) l ↔ (Contains (cells_of i) l.cell × (((known l ≡ true) × ((v : Valuation) × IsRow i v × Has v l)) ⊎ XorForces inverted i known l))
-    xor-exact l = (
-      λ f. (
-        f.on_cells,
-        elim (cases_Bool (known l)) [
-          | inl holds ↦ inl (holds, (f.row, f.is_row, Forces-row known i l f f.row f.is_row (Keeps-itself known f.row)))
-          | inr new ↦ inr (xor_forces inverted i xor_like known l f new)
-        ],
-      ),
-      λ h. elim h.1 [
-        | inl some ↦ known_forced known i l h.0 some.0 some.1.0 some.1.1 some.1.2
-        | inr x ↦ xor_forces-from inverted i xor_like known l x
-      ],
-    )
-
     -- a cell that stands an even number of times: nothing but what is known
     pub xor_even-exact : (Contains i.pins i.target → ⊥) → (l : Lit) → Contains (cells_of i) l.cell → is_odd l.cell (cells_of i) ≡ false
         → Forces i (passing known) l ↔ (known l ≡ true)

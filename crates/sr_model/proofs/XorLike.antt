@@ -5,29 +5,14 @@ use Rattle.std.proofs.lemmas.Bool.{cases_Bool, true≢false, and_parts, and_from
 use Rattle.std.proofs.lemmas.List.Elements.{All-contains, All-map}
 use Rattle.sr_model.specs.declared.cells.Cell.{Cell}
 use Rattle.sr_model.specs.declared.cells.Lit.{Lit}
-use Rattle.sr_model.specs.declared.gates.Kind.TheVariants.{Xor, Xnor}
-use Rattle.sr_model.specs.Netlist.{Instance, cells_of, Valuation, IsRow, Has}
+use Rattle.sr_model.specs.Netlist.{cell_eq, Instance, cells_of, Valuation, IsRow, Has}
 use Rattle.sr_model.specs.Closure.{Forces, passing, lit}
+use Rattle.sr_model.specs.RuleLaws.{XorForces}
 use Rattle.sr_model.specs.XorLike.{plus, parity, is_odd, IsXorLike}
 use Rattle.sr_model.proofs.lemmas.Members.{Contains-here, Contains-there, Contains-map, filter-member, filter-passes, filter-has, All-from_Contains}
-use Rattle.sr_model.proofs.Rows.{cell_eq, cell_cases, cell_eq-swap, put, put-at, put-other, Keeps, Keeps-itself, Keeps-put, Forces-row}
+use Rattle.sr_model.proofs.Rows.{cell_cases, cell_eq-swap, put, put-at, put-other, Keeps, Keeps-itself, Keeps-put, Forces-row}
 use Rattle.sr_model.proofs.AndLike.{bit_cases}
-use Rattle.sr_model.proofs.Parity.{odd_one-is, plus_move, parity-turn, parity-agree}
-
-pub xor_is : (target : Cell) (pins : List Cell) → IsXorLike false (record { kind = Xor; target = target; pins = pins })
-xor_is target pins w = odd_one-is w pins
-
-pub xnor_is : (target : Cell) (pins : List Cell) → IsXorLike true (record { kind = Xnor; target = target; pins = pins })
-xnor_is target pins w = ap not (odd_one-is w pins)
-
--- The cell stands an odd number of times, and bits that are known at each other such cell leave it this bit alone.
-pub record XorForces (inverted : Bool) (i : Instance) (known : Lit → Bool) (l : Lit) : Type 0 where
-  pub on_cells : Contains (cells_of i) l.cell
-  pub odd : is_odd l.cell (cells_of i) ≡ true
-  pub choice : Valuation
-  pub balanced : parity choice (cells_of i) ≡ inverted
-  pub chosen : choice l.cell ≡ l.bit
-  pub others : (d : Cell) → is_odd d (cells_of i) ≡ true → cell_eq d l.cell ≡ false → known (lit d (choice d)) ≡ true
+use Rattle.sr_model.proofs.Parity.{plus_move, parity-turn, parity-agree}
 
 pub not_own : (b : Bool) → not b ≡ b → ⊥
 not_own true e = cc

@@ -1,5 +1,5 @@
 -- The laws of the kinds: how many pins each may have, and the family that says how its target follows from them.
-use Rattle.std.specs.Prelude.{ℕ, ◌≡◌, ◌⊎◌, Bool, true, length}
+use Rattle.std.specs.Prelude.{ℕ, ◌≡◌, ◌⊎◌, true, length}
 use Rattle.sr_model.specs.declared.gates.Family.{Family}
 use Rattle.sr_model.specs.declared.gates.Family.TheVariants.{AndLike, Parity}
 use Rattle.sr_model.specs.declared.gates.Kind.{Kind}

@@ -10,5 +10,6 @@ pub mod Limits
 pub mod Netlist
 pub mod Order
 pub mod Room
+pub mod RuleLaws
 pub mod Worked
 pub mod XorLike

@@ -26,6 +26,10 @@ max_cycles = MAX_CYCLES
 abbrev pub max_blocks : ℕ
 max_blocks = MAX_BLOCKS
 
+-- cells of a netlist over a number of cycles
+abbrev pub max_cells : ℕ
+max_cells = max_signals * max_cycles
+
 -- how many chunks of 64 cycles there are, the last one perhaps not full
 abbrev pub chunk_count : ℕ → ℕ
 chunk_count cycles = (cycles + 63) / 64

@@ -1,5 +1,5 @@
 -- A netlist over a number of cycles: its instances, their rows, and its executions.
-use Rattle.std.specs.Prelude.{ℕ, ◌≡◌, ◌+◌, Bool, List, ◌∷◌, map, Option, Some, None, if◌then◌else◌, nat_lt, slice_index_or}
+use Rattle.std.specs.Prelude.{ℕ, ◌≡◌, ◌+◌, ◌==◌, ◌&&◌, Bool, List, ◌∷◌, map, Option, Some, None, if◌then◌else◌, nat_lt, slice_index_or}
 use Rattle.std.specs.List.{All}
 use Rattle.sr_model.specs.declared.gates.Kind.{Kind}
 use Rattle.sr_model.specs.declared.cells.Sig.{Sig}
@@ -20,6 +20,10 @@ pub record Unrolled : Type 0 where
 
 abbrev pub cell_at : ℕ → Sig → Cell
 cell_at cycle sig = record { cycle = cycle; sig = sig }
+
+-- whether the two are one cell
+abbrev pub cell_eq : Cell → Cell → Bool
+cell_eq a b = (a.cycle == b.cycle) && (a.sig.0 == b.sig.0)
 
 -- how many cycles the target's cell is after the pins'
 abbrev pub delay : Kind → ℕ

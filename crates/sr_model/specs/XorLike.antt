@@ -1,8 +1,8 @@
 -- The gates whose target has the parity of their pins, or the other bit: XOR and XNOR.
-use Rattle.std.specs.Prelude.{◌≡◌, ◌==◌, ◌&&◌, Bool, true, false, not, List, [], ◌∷◌, map}
+use Rattle.std.specs.Prelude.{◌≡◌, Bool, true, false, not, List, [], ◌∷◌, map}
 use Rattle.sr_model.specs.declared.cells.Cell.{Cell}
 use Rattle.sr_model.specs.Gate.{value}
-use Rattle.sr_model.specs.Netlist.{Instance, Valuation}
+use Rattle.sr_model.specs.Netlist.{Instance, Valuation, cell_eq}
 
 -- the sum of two bits without carry
 abbrev pub plus : Bool → Bool → Bool
@@ -16,7 +16,7 @@ parity v (c ∷ cs) = plus (v c) (parity v cs)
 
 -- whether the cell stands an odd number of times
 abbrev pub is_odd : Cell → List Cell → Bool
-is_odd c cs = parity (λ d. (d.cycle == c.cycle) && (d.sig.0 == c.sig.0)) cs
+is_odd c cs = parity (λ d. cell_eq d c) cs
 
 -- the gate's meaning: the parity of all its cells is `inverted`
 abbrev pub IsXorLike : Bool → Instance → Type 0

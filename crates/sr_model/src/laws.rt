@@ -4,6 +4,7 @@
 ghost use Rattle.sr_model.specs.Laws.{IsSound, HasBase, ClosureIsClosed, IsLeast, IsMonotone, IsUnionOfLevels, ContradictionExcludes, KnownIsSound, ForcedStaysBetween, ClosedBetweenIsAll, SameClosure, StableLevel, ForcedByCells, ForcedGrows};
 ghost use Rattle.sr_model.specs.Decisions.{ClosureIsATest, ClashOrNone, DumpClashOrNone};
 ghost use Rattle.sr_model.specs.KindLaws.{HasItsFamily, HasSomePins, PinCountIsDecided, FlipFlopIsDff};
+ghost use Rattle.sr_model.specs.RuleLaws.{AndLikeForces, ParityForces};
 ghost use Rattle.sr_model.specs.Worked.{RestoresR, RulesMissO};
 
 /// The closure of a set of literals has the set, is closed, and is the least such set; it grows with the set, and is the union of the levels.
@@ -52,6 +53,12 @@ pub fn kind_laws()
     ensures some_pins { HasSomePins }
     ensures decided { PinCountIsDecided }
     ensures flip_flop { FlipFlopIsDff }
+{}
+
+/// What an instance forces, exactly, by its family.
+pub fn rule_laws()
+    ensures and_like { AndLikeForces }
+    ensures parity { ParityForces }
 {}
 
 /// A record `q x1` restores `r` in cycle 1, through two gates in cycle 0.

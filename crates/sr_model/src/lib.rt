@@ -21,5 +21,5 @@ pub use laws::{
 pub use limits::{
     MAX_BLOCKS, MAX_CYCLES, MAX_GATE_PINS, MAX_GATE_SIGNALS, MAX_PINS, MAX_SIGNALS, block_count,
 };
-pub use lists::{Bytes, Lits, Names, NoMemory, Sequence, Sigs, Statements};
+pub use lists::{Bytes, Lits, Names, NoMemory, Sequence, Sigs, Statements, to_bytes};
 pub use statements::{Numbered, Statement};

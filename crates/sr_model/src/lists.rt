@@ -133,6 +133,16 @@ pub type Sigs = Sequence<Sig>;
 /// A list of literals.
 pub type Lits = Sequence<Lit>;
 
+/// A copy of these bytes.
+pub fn to_bytes(alloc: Global, bytes: &[u8]) -> Result<Bytes, NoMemory>
+    ensures { IfOk result (λ copy. copy.items ≡ bytes.now) }
+{
+    match Vec::from_slice(alloc, bytes) {
+        Ok(copy) => Ok(Sequence::from_vec(copy)),
+        Err(AllocError) => Err(NoMemory),
+    }
+}
+
 impl Sequence<Bytes> {
     /// The bytes of name i, counted from 0.
     pub fn get(&self, i: usize) -> &[u8]

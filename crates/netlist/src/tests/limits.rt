@@ -1,7 +1,6 @@
 //! The most signals and pins, and the line with which they are too many.
 use super::{Row, statement_of, statements_of, told};
-use crate::names::to_bytes;
-use sr_model::{Kind, Numbered, Statement, Statements};
+use sr_model::{Kind, Numbered, Statement, Statements, to_bytes};
 use std::test::Fail;
 
 #[test]

@@ -1,7 +1,8 @@
 use Rattle.std.proofs.Common.{◌++◌, [], map, sym, ap, ◌∙◌}
 use Rattle.std.proofs.lemmas.Option.{get_or_from_slice_get}
 use Rattle.netlist.specs.Wiring.{driver_at}
-use Rattle.bench_reader.specs.Printed.{kind_text, listed, name_in}
+use Rattle.bench_reader.specs.Kinds.{kind_text}
+use Rattle.bench_reader.specs.Printed.{listed, name_in}
 use Rattle.bench_reader.proofs.Printing.{driver_pushed, driver_line-driven}
 use Rattle.bench_reader.proofs.print.push_driver.Goals as goal
 

@@ -11,7 +11,7 @@ use Rattle.bench_reader.proofs.reader.read_statement.Goals as goal
 pub returns-in_default-clause-refusal : goal.returns-in_default-clause-refusal
 returns-in_default-clause-refusal c =
     let is : IsFound [] c.args.text.now None = subst (λ found. IsFound [] c.args.text.now (form_of c.read_form.new.pins.items found)) c.in_default.is c.in_ok-form.ensures in
-    (refl, (c.requires, λ form has. none-some form ((is form).1 has)))
+    (refl, λ form has. none-some form ((is form).1 has))
 
 pub returns-then-not-has_short_names-clause-refusal : goal.returns-then-not-has_short_names-clause-refusal
 returns-then-not-has_short_names-clause-refusal c =

@@ -1,4 +1,5 @@
 use Rattle.std.proofs.Common.{refl, ⊎_elim, inl, inr}
+use Rattle.dump_reader.specs.Head.{cycles_word}
 use Rattle.dump_reader.proofs.Front.{none_given, no_cycles, other_word, no_number, no_count, count_given}
 use Rattle.dump_reader.proofs.reader.cycles_of.Goals as goal
 
@@ -7,7 +8,7 @@ returns-in_err-word c = none_given c.args.text.now c.from_residual.result c.from
 
 pub returns-then-ne : goal.returns-then-ne
 returns-then-ne c =
-    none_given c.args.text.now _ refl (other_word c.args.text.now c.in_ok-word.word.now c.in_ok-word.number.now c.as_slice.result.now c.ne.result c.in_ok-word.ensures c.as_slice.ensures c.ne.ensures c.if-ne.true)
+    none_given c.args.text.now _ refl (other_word c.args.text.now c.in_ok-word.word.now c.in_ok-word.number.now cycles_word c.ne.result c.in_ok-word.ensures refl c.ne.ensures c.if-ne.true)
 
 pub returns-in_err-cycles : goal.returns-in_err-cycles
 returns-in_err-cycles c =
@@ -20,5 +21,5 @@ returns-then-cycles-eq0 c =
 
 pub returns : goal.returns
 returns c =
-    count_given c.args.text.now c.in_ok-word.word.now c.in_ok-word.number.now c.as_slice.result.now c.ne.result c.read_u64.result c.in_ok-cycles.cycles c.in_ok-word.ensures c.as_slice.ensures c.ne.ensures c.if-ne.false
+    count_given c.args.text.now c.in_ok-word.word.now c.in_ok-word.number.now cycles_word c.ne.result c.read_u64.result c.in_ok-cycles.cycles c.in_ok-word.ensures refl c.ne.ensures c.if-ne.false
     c.read_u64.ensures c.in_ok-cycles.was c.if-cycles-eq0.false c.if-cycles-gt-MAX_CYCLES.false

@@ -1,11 +1,10 @@
-use Rattle.bench_reader.specs.Grammar.{text_lines}
 use Rattle.bench_reader.proofs.BenchLaws.{one_reading, one_refusal, not_both}
 use Rattle.bench_reader.proofs.ReadOrRefused.{read_or_refused}
 use Rattle.bench_reader.proofs.Statements.{spells_statements}
-use Rattle.bench_reader.proofs.reader.bench_laws.Goals as goal
+use Rattle.bench_reader.proofs.laws.bench_laws.Goals as goal
 
 pub returns-clause-one_reading : goal.returns-clause-one_reading
-returns-clause-one_reading c text a b = one_reading 1 (text_lines text) a b
+returns-clause-one_reading c = one_reading
 
 pub returns-clause-one_refusal : goal.returns-clause-one_refusal
 returns-clause-one_refusal c = one_refusal
