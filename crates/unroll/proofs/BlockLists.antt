@@ -73,14 +73,6 @@ module _ (u : Unrolling) (target : Sig) (chunk : ℕ) where
       let all : length (flat_map (blocks_for u target chunk) ss) ≤ 1025 = subst (λ xs. length (flat_map (blocks_for u target chunk) xs) ≤ 1025) (sym same) (few-blocks is h) in
       omega (arith, all, length-flat_map-take (blocks_for u target chunk) ss i d within)
 
-  -- the blocks of one more signal
-  pub blocks-more : (ss : List Sig) (i : ℕ) (d : Sig) → i < length ss → (before after : List Block) → before ≡ flat_map (blocks_for u target chunk) (take i ss)
-      → after ≡ before ++ blocks_for u target chunk (get_or ss i d) → after ≡ flat_map (blocks_for u target chunk) (take (i + 1) ss)
-  blocks-more ss i d within before after was more =
-      more ∙ ap (λ bs. bs ++ blocks_for u target chunk (get_or ss i d)) was
-      ∙ ap (λ bs. flat_map (blocks_for u target chunk) (take i ss) ++ bs) (sym (append-nil (blocks_for u target chunk (get_or ss i d))))
-      ∙ sym (flat_map-append (blocks_for u target chunk) (take i ss) (get_or ss i d ∷ [])) ∙ ap (flat_map (blocks_for u target chunk)) (sym (take_more ss i d within))
-
   pub room-for : IsProblem u → target.0 < length u.circuit.drivers → (ss : List Sig) → ss ≡ signals_of u.circuit.drivers target → (i : ℕ) (d : Sig) → i < length ss
       → (items : List Block) (room : ℕ) → items ≡ flat_map (blocks_for u target chunk) (take i ss) → 1025 ≤ room → length items + length (blocks_for u target chunk (get_or ss i d)) ≤ room
   room-for is h ss same i d within items room was enough =

@@ -72,14 +72,16 @@ bit-small c = below c.cycle where
   below : (n : ℕ) → n % 64 < 64
   below n = omega arith
 
+-- a cycle by its chunk and bit
+pub lane-chunk : (chunk i : ℕ) → i < 64 → (64 * chunk + i) / 64 ≡ chunk
+lane-chunk chunk i few = omega arith
+
+pub lane-bit : (chunk i : ℕ) → i < 64 → (64 * chunk + i) % 64 ≡ i
+lane-bit chunk i few = omega arith
+
 -- a bit's cell has its block and its bit
 pub cell-bit : (u : Unrolling) (b : Block) (i : ℕ) → i < 64 → (block_of u (cell_of u b i) ≡ b) × (bit_of (cell_of u b i) ≡ i)
-cell-bit u b i few = (ap (block_at u (sig_at u b)) (over (chunk_at u b)) ∙ block-itself u b, rest (chunk_at u b)) where
-  over : (c : ℕ) → (64 * c + i) / 64 ≡ c
-  over c = omega (arith, few)
-
-  rest : (c : ℕ) → (64 * c + i) % 64 ≡ i
-  rest c = omega (arith, few)
+cell-bit u b i few = (ap (block_at u (sig_at u b)) (lane-chunk (chunk_at u b) i few) ∙ block-itself u b, lane-bit (chunk_at u b) i few)
 
 -- the blocks of a task by its target and chunk
 pub blocks-at : (u : Unrolling) (s : Sig) (chunk : ℕ) → chunk < chunks_in u → blocks_of u (task_at u s chunk) ≡ blocks_from u s chunk

@@ -1,18 +1,12 @@
 //! The tasks and blocks of a small netlist, worked out by hand.
 use crate::{Block, Blocks, Problem, Task, Tasks};
 use netlist::{Netlist, are_statements, build};
-use sr_model::{Bytes, Kind, MAX_GATE_SIGNALS, Names, NoMemory, Numbered, Statement, Statements};
+use sr_model::{
+    Kind, MAX_GATE_SIGNALS, Names, NoMemory, Numbered, Statement, Statements, to_bytes,
+};
 use std::alloc::Global;
 use std::process::Abort;
 use std::test::Fail;
-
-fn to_bytes(alloc: Global, text: &[u8]) -> Result<Bytes, NoMemory> {
-    let mut bytes = Bytes::new(alloc);
-    for byte in text {
-        bytes.push(*byte)?;
-    }
-    Ok(bytes)
-}
 
 fn drive(alloc: Global, target: &[u8], kind: Kind, names: &[&[u8]]) -> Result<Statement, NoMemory> {
     let target = to_bytes(alloc, target)?;
