@@ -5,11 +5,9 @@ use Rattle.std.specs.Str.{str_eq_ignore_ascii_case}
 use Rattle.sr_model.specs.Declaration.{Declaration}
 use Rattle.sr_text.specs.Lines.{numbered}
 use Rattle.sr_text.proofs.lemmas.FirstFaults.{Line, part}
-use Rattle.bench_reader.specs.declared.reader.BenchRefusal.{BenchRefusal}
 use Rattle.bench_reader.specs.declared.reader.BenchRefusal.TheVariants.{Syntax, NameLong, UnknownKind, WrongPins, NoMemory}
 use Rattle.bench_reader.specs.Grammar.{Token, Form, InputForm, OutputForm, DriverForm, HasTokens, HasForm, HasShortNames, HasRightPins, IsKnownKind, Declares, States, StateEach, Spells, IsFirstFault, IsSyntaxFault, IsNameFault, IsKindFault, IsPinFault}
-use Rattle.bench_reader.specs.Laws.{HasOneReading}
-use Rattle.bench_reader.specs.Refusal.{IsRefusal}
+use Rattle.bench_reader.specs.Laws.{HasOneReading, IsRefusedOnce, ReadTextsAreNotRefused}
 use Rattle.bench_reader.proofs.Forms.{driver_is}
 
 input_is_no_output : (word : List ℕ) → IsTrue (str_eq_ignore_ascii_case word (codes "INPUT")) → IsTrue (str_eq_ignore_ascii_case word (codes "OUTPUT")) → ⊥
@@ -105,7 +103,7 @@ not_read : (P : List ℕ → Type 0) (text : List ℕ) (i : ℕ) (stated : List 
 not_read P text i stated not_p spells fault =
     never_read fault.before fault.after (i, fault.bad) stated (subst (λ (ls : List Line). StateEach ls stated) fault.whole spells) (not_p fault.bad fault.fault)
 
-pub not_both : (text : List ℕ) (stated : List (ℕ × Declaration)) (r : BenchRefusal) → Spells text stated → IsRefusal text r → r ≡ NoMemory
+pub not_both : ReadTextsAreNotRefused
 not_both text stated (Syntax i) spells bad = absurd (not_read IsSyntaxFault text i stated syntax_not_read spells bad)
 not_both text stated (NameLong i) spells bad = absurd (not_read IsNameFault text i stated name_not_read spells bad)
 not_both text stated (UnknownKind i) spells bad = absurd (not_read IsKindFault text i stated kind_not_read spells bad)
@@ -144,7 +142,7 @@ kind_alone text i j is_a is_b =
     let both = (same_fault IsKindFault IsPinFault text i j kind_not_read pin_not_read is_a is_b).1 in
     both.1.3 (subst IsKnownKind (same_form both.0 both.2.0 both.1.0 both.2.1 both.1.1) both.2.3)
 
-pub one_refusal : (text : List ℕ) (a b : BenchRefusal) → IsRefusal text a → IsRefusal text b → a ≢ NoMemory → b ≢ NoMemory → a ≡ b
+pub one_refusal : IsRefusedOnce
 one_refusal text NoMemory b is_a is_b some_a some_b = absurd (some_a refl)
 one_refusal text a NoMemory is_a is_b some_a some_b = absurd (some_b refl)
 one_refusal text (Syntax i) (Syntax j) is_a is_b some_a some_b = ap (λ n. Syntax n) (same_fault IsSyntaxFault IsSyntaxFault text i j syntax_not_read syntax_not_read is_a is_b).0

@@ -3,6 +3,7 @@ use Rattle.std.proofs.Common.{◌≡◌, ◌≢◌, ℕ, true, List, [], length,
 use Rattle.sr_model.specs.declared.gates.Kind.{Kind}
 use Rattle.sr_model.specs.declared.gates.Kind.TheVariants.{And, Nand, Or, Nor, Xor, Xnor, Not, Buf, Dff}
 use Rattle.sr_model.specs.Gate.{IsPinCount}
+use Rattle.sr_model.proofs.lemmas.Laws.{some_pins}
 use Rattle.sr_text.specs.Name.{is_name}
 use Rattle.bench_reader.specs.Kinds.{kind_named, kind_text}
 
@@ -18,13 +19,6 @@ printed_kind Not = (refl, refl)
 printed_kind Buf = (refl, refl)
 printed_kind Dff = (refl, refl)
 
-pub some_pins : (kind : Kind) (pins : List (List ℕ)) → IsPinCount kind (length pins) → pins ≢ []
-some_pins And pins count none = let size = ap length none in absurd (omega arith)
-some_pins Nand pins count none = let size = ap length none in absurd (omega arith)
-some_pins Or pins count none = let size = ap length none in absurd (omega arith)
-some_pins Nor pins count none = let size = ap length none in absurd (omega arith)
-some_pins Xor pins count none = let size = ap length none in absurd (omega arith)
-some_pins Xnor pins count none = let size = ap length none in absurd (omega arith)
-some_pins Not pins count none = let size = ap length none in absurd (omega arith)
-some_pins Buf pins count none = let size = ap length none in absurd (omega arith)
-some_pins Dff pins count none = let size = ap length none in absurd (omega arith)
+-- a kind has some pins
+pub has_pins : (kind : Kind) (pins : List (List ℕ)) → IsPinCount kind (length pins) → pins ≢ []
+has_pins kind pins count none = let some = some_pins kind (length pins) count in absurd (omega (arith, some.0, ap length none))

@@ -1,5 +1,5 @@
 -- What a printed text states.
-use Rattle.std.proofs.Common.{◌≡◌, ◌≢◌, ℕ, suc, ◌+◌, ◌-◌, ◌<◌, ◌==◌, ◌&&◌, Bool, true, false, not, eqb, List, [], ◌∷◌, ◌++◌, length, get_or, map, Some, refl, sym, ap, subst, ◌∙◌, arith, rules, append_assoc, inl, inr}
+use Rattle.std.proofs.Common.{◌≡◌, ◌≢◌, ℕ, suc, ◌+◌, ◌-◌, ◌<◌, ◌==◌, ◌&&◌, Bool, true, false, not, eqb, List, [], ◌∷◌, ◌++◌, length, get_or, map, refl, sym, ap, subst, ◌∙◌, arith, rules, append_assoc, inl, inr}
 use Rattle.std.specs.Prelude.{codes, nat_lt}
 use Rattle.std.specs.List.{All, list_all, flat_map, prefix_len}
 use Rattle.std.proofs.lemmas.Bool.{and_parts, and_from, cases_Bool, cond-false, eq-eqb, false≢true, ltb-true, not-true}
@@ -9,7 +9,6 @@ use Rattle.std.proofs.lemmas.List.Elements.{All-map}
 use Rattle.std.proofs.lemmas.List.Folds.{flat_map-map}
 use Rattle.std.proofs.lemmas.List.Sums.{AllPass-from_list_all}
 use Rattle.sr_model.specs.declared.cells.Sig.{Sig}
-use Rattle.sr_model.specs.declared.gates.Kind.{Kind}
 use Rattle.sr_model.specs.Declaration.{Declaration, InputNamed, OutputNamed, DriverNamed}
 use Rattle.sr_model.specs.Gate.{IsPinCount}
 use Rattle.sr_model.specs.Netlist.{Driver, Input, Driven}
@@ -23,7 +22,7 @@ use Rattle.netlist.specs.Wiring.{driver_at, signals_below}
 use Rattle.bench_reader.specs.Grammar.{tokens, InputForm, OutputForm, DriverForm, is_short, States, StateEach, Spells}
 use Rattle.bench_reader.specs.Kinds.{kind_text}
 use Rattle.bench_reader.specs.Printed.{name_in, listed, port_line, driver_line, bench_text}
-use Rattle.bench_reader.proofs.KindWords.{printed_kind, some_pins}
+use Rattle.bench_reader.proofs.KindWords.{printed_kind, has_pins}
 use Rattle.bench_reader.proofs.SignalNames.{flat_agree}
 use Rattle.bench_reader.proofs.Tokens.{name_is_no_blank}
 use Rattle.bench_reader.proofs.PrintedTokens.{tokens-port, tokens-driver, name_bytes}
@@ -207,7 +206,7 @@ body_states (DriverNamed target kind pins) is =
       has_form = (
         _,
         ap tokens (driver_grouped target (kind_text kind) (listed pins)) ∙ tokens-driver target (kind_text kind) pins parts.0 (printed_kind kind).0 parts.1,
-        (some_pins kind pins is.0, refl),
+        (has_pins kind pins is.0, refl),
       );
       short = names_short (target ∷ pins) is.1;
       right_pins = λ other named. subst (λ k. IsPinCount k (length pins)) (let both = sym (printed_kind kind).1 ∙ named in let same : kind ≡ other = cc in same) is.0;

@@ -11,7 +11,6 @@ use Rattle.std.proofs.lemmas.List.Kept.{AllPairs-filter}
 use Rattle.std.proofs.lemmas.Option.{slice_get-get_or}
 use Rattle.sr_model.specs.declared.cells.Sig.{Sig}
 use Rattle.sr_model.specs.declared.gates.Kind.{Kind}
-use Rattle.sr_model.specs.declared.gates.Kind.TheVariants.{And, Nand, Or, Nor, Xor, Xnor, Not, Buf, Dff}
 use Rattle.sr_model.specs.Declaration.{Declaration, InputNamed, OutputNamed, DriverNamed}
 use Rattle.sr_model.specs.Gate.{IsPinCount}
 use Rattle.sr_model.specs.Netlist.{Driver, Input, Driven}
@@ -40,15 +39,7 @@ kind_of-renamed sig names (Driven kind pins) = refl
 
 is_gate-renamed : (sig : List ℕ → Sig) (names : List (List ℕ)) (driver : Driver) → is_gate (renamed sig names driver) ≡ is_gate driver
 is_gate-renamed sig names Input = refl
-is_gate-renamed sig names (Driven And pins) = refl
-is_gate-renamed sig names (Driven Nand pins) = refl
-is_gate-renamed sig names (Driven Or pins) = refl
-is_gate-renamed sig names (Driven Nor pins) = refl
-is_gate-renamed sig names (Driven Xor pins) = refl
-is_gate-renamed sig names (Driven Xnor pins) = refl
-is_gate-renamed sig names (Driven Not pins) = refl
-is_gate-renamed sig names (Driven Buf pins) = refl
-is_gate-renamed sig names (Driven Dff pins) = refl
+is_gate-renamed sig names (Driven kind pins) = refl
 
 pins_of-renamed : (sig : List ℕ → Sig) (names : List (List ℕ)) (driver : Driver) → pins_of (renamed sig names driver) ≡ map sig (map (name_in names) (pins_of driver))
 pins_of-renamed sig names Input = refl

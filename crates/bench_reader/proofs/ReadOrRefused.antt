@@ -1,11 +1,11 @@
 -- Each text is read or refused.
-use Rattle.std.proofs.Common.{◌≡◌, ◌≢◌, ◌⊎◌, ℕ, ◌+◌, ◌≤◌, List, [], ◌∷◌, ◌++◌, length, take, drop, Option, Some, None, refl, sym, subst, ◌∙◌, inl, inr, arith}
+use Rattle.std.proofs.Common.{◌≡◌, ◌≢◌, ◌⊎◌, ℕ, List, [], ◌∷◌, ◌++◌, length, Option, Some, None, refl, sym, subst, ◌∙◌, inl, inr}
 use Rattle.std.specs.List.{list_all}
-use Rattle.std.proofs.lemmas.Bool.{cases_Bool, cases_eq, cases_lt, both_ways}
+use Rattle.std.proofs.lemmas.Bool.{cases_Bool, both_ways}
 use Rattle.sr_text.specs.Lines.{numbered}
 use Rattle.sr_model.specs.declared.gates.Kind.{Kind}
-use Rattle.sr_model.specs.declared.gates.Kind.TheVariants.{And, Nand, Or, Nor, Xor, Xnor, Not, Buf, Dff}
 use Rattle.sr_model.specs.Gate.{IsPinCount}
+use Rattle.sr_model.proofs.lemmas.Laws.{pin_count_decided}
 use Rattle.sr_model.specs.Declaration.{Declaration, InputNamed, OutputNamed, DriverNamed}
 use Rattle.bench_reader.specs.declared.reader.BenchRefusal.{BenchRefusal}
 use Rattle.bench_reader.specs.declared.reader.BenchRefusal.TheVariants.{Syntax, NameLong, UnknownKind, WrongPins, NoMemory}
@@ -16,24 +16,6 @@ use Rattle.bench_reader.specs.Laws.{IsReadOrRefused}
 use Rattle.bench_reader.proofs.FormOrNone.{form_or_none}
 use Rattle.bench_reader.proofs.Lines.{HasRead, line_refusal, states, read_more, refusal_of, whole_read}
 
-many_or_not : (n : ℕ) → ((1 ≤ n) × (n ≤ 1024)) ⊎ ((1 ≤ n) × (n ≤ 1024) → ⊥)
-many_or_not n =
-    elim (cases_lt n 1) [
-      | inl none ↦ inr (λ h. omega (arith, h.0))
-      | inr some ↦ elim (cases_lt 1024 n) [ inl many ↦ inr (λ h. omega (arith, h.1)) | inr few ↦ inl (some, few) ]
-    ]
-
-pin_count_or_not : (kind : Kind) (n : ℕ) → IsPinCount kind n ⊎ (IsPinCount kind n → ⊥)
-pin_count_or_not Not n = cases_eq n 1
-pin_count_or_not Buf n = cases_eq n 1
-pin_count_or_not Dff n = cases_eq n 1
-pin_count_or_not And n = many_or_not n
-pin_count_or_not Nand n = many_or_not n
-pin_count_or_not Or n = many_or_not n
-pin_count_or_not Nor n = many_or_not n
-pin_count_or_not Xor n = many_or_not n
-pin_count_or_not Xnor n = many_or_not n
-
 -- a form declares something, or is bad in some way
 abbrev DeclaresOrBad : Form → ℕ → Type 0
 DeclaresOrBad form number = ((d : Declaration) × HasRightPins form × Declares form d) ⊎ ((r : BenchRefusal) × IsFormRefusal form number r × (r ≢ NoMemory))
@@ -41,7 +23,7 @@ DeclaresOrBad form number = ((d : Declaration) × HasRightPins form × Declares 
 driver_declares : (target word : List ℕ) (pins : List (List ℕ)) (number : ℕ) (found : Option Kind) → kind_named word ≡ found → DeclaresOrBad (DriverForm target word pins) number
 driver_declares target word pins number None e = inr (UnknownKind number, (refl, λ known. known e), λ other. cc)
 driver_declares target word pins number (Some kind) e =
-    elim (pin_count_or_not kind (length pins)) [
+    elim (pin_count_decided kind (length pins)) [
       | inl right ↦ inl (DriverNamed target kind pins, (λ k is. subst (λ j. IsPinCount j (length pins)) (let both = sym e ∙ is in let same : kind ≡ k = cc in same) right), (kind, e, refl))
       | inr wrong ↦ inr (WrongPins number, (refl, (λ none. let both = sym e ∙ none in absurd cc), λ right. wrong (right kind e)), λ other. cc)
     ]

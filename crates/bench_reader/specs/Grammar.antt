@@ -1,5 +1,5 @@
 -- The grammar of a netlist's text: what each line states.
-use Rattle.std.specs.Prelude.{ℕ, ◌≡◌, ◌≢◌, ◌==◌, ◌||◌, Bool, false, IsTrue, List, [], ◌∷◌, ◌++◌, length, map, codes, if◌then◌else◌, Option, Some, None, option_and_then, nat_le}
+use Rattle.std.specs.Prelude.{ℕ, ◌≡◌, ◌≢◌, ◌==◌, ◌||◌, Bool, false, IsTrue, List, [], ◌∷◌, length, codes, if◌then◌else◌, Option, Some, None, option_and_then, nat_le}
 use Rattle.std.specs.List.{AllZip, list_all}
 use Rattle.std.specs.Str.{str_eq_ignore_ascii_case}
 use Rattle.sr_text.specs.Lines.{FirstFault, numbered}

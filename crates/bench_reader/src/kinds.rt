@@ -1,6 +1,5 @@
 //! The words of the kinds.
-ghost use Rattle.std.specs.Prelude.{◌≡◌, ◌↔◌, IsTrue};
-ghost use Rattle.sr_model.specs.Gate.{IsPinCount};
+ghost use Rattle.std.specs.Prelude.{◌≡◌};
 ghost use Rattle.bench_reader.specs.Kinds.{kind_named, kind_text};
 
 use sr_model::Kind;
@@ -16,9 +15,6 @@ const KINDS: [Kind; 9] = [
     Kind::Buf,
     Kind::Dff,
 ];
-
-/// The most pins of a gate.
-const MAX_PINS: usize = 1024;
 
 /// The kind that a word names, in any case: `BUF` is another word of `BUFF`.
 pub(crate) fn kind_named(word: &[u8]) -> Option<Kind>
@@ -49,15 +45,5 @@ pub(crate) fn kind_word(kind: Kind) -> &'static [u8]
         Kind::Not => b"NOT",
         Kind::Buf => b"BUFF",
         Kind::Dff => b"DFF",
-    }
-}
-
-/// Whether a gate or flip-flop of the kind may have so many pins.
-pub(crate) fn is_pin_count(kind: Kind, pins: usize) -> bool
-    ensures { IsTrue result ↔ IsPinCount kind pins }
-{
-    match kind {
-        Kind::Not | Kind::Buf | Kind::Dff => pins == 1,
-        _ => 1 <= pins && pins <= MAX_PINS,
     }
 }

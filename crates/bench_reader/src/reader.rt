@@ -9,7 +9,7 @@ ghost use Rattle.bench_reader.specs.Refusal.{IsRefusal, IsLineRefusal, IsFormRef
 ghost use Rattle.bench_reader.specs.Found.{form_with};
 
 use crate::form::{Form, read_form};
-use crate::kinds::{is_pin_count, kind_named};
+use crate::kinds::kind_named;
 use sr_model::{Bytes, Names, NoMemory, Numbered, Sequence, Statement, Statements};
 use sr_text::TextLines;
 use std::alloc::{AllocError, Global};
@@ -121,7 +121,7 @@ fn to_statement(
             let Some(kind) = kind_named(word) else {
                 return Err(BenchRefusal::UnknownKind { line });
             };
-            if !is_pin_count(kind, pins.len()) {
+            if !kind.may_have(pins.len()) {
                 return Err(BenchRefusal::WrongPins { line });
             }
             let target = to_bytes(alloc, target)?;

@@ -1,16 +1,15 @@
 -- The printed text of a dump reads as that dump.
-use Rattle.std.proofs.Common.{◌≡◌, ◌≢◌, ℕ, ◌+◌, ◌-◌, ◌%◌, ◌<◌, ◌^◌, Bool, true, false, not, ◌&&◌, ◌||◌, cond, eqb, ltb, List, [], ◌∷◌, ◌++◌, length, get_or, take, drop, map, codes, Option, Some, None, refl, sym, ap, subst, ◌∙◌, inr, append_assoc, add-zero, arith}
+use Rattle.std.proofs.Common.{◌≡◌, ◌≢◌, ℕ, ◌+◌, ◌-◌, ◌%◌, ◌<◌, ◌^◌, Bool, true, false, not, ◌&&◌, ◌||◌, eqb, ltb, List, [], ◌∷◌, ◌++◌, length, get_or, map, codes, Option, Some, None, refl, sym, ap, subst, ◌∙◌, append_assoc, arith}
 use Rattle.std.specs.Prelude.{IsTrue}
-use Rattle.std.specs.List.{All, flat_map, list_all, prefix_len, suffix_len, position_or_len, before_first}
+use Rattle.std.specs.List.{All, list_all, prefix_len}
 use Rattle.std.specs.Fmt.{decimal}
-use Rattle.std.proofs.lemmas.Bool.{cond-true, cond-false, and_parts, and_from, and_right, or_from, lt-ltb, ltb-true, ne_eqb, eq-eqb, not-true, not_from_false, false≢true}
+use Rattle.std.proofs.lemmas.Bool.{and_parts, ltb-true, eq-eqb, not-true, false≢true}
 use Rattle.std.proofs.lemmas.Fmt.{decimal_by_steps}
-use Rattle.std.proofs.lemmas.List.{append-nil, length-append, length-map, take_all, take_at, get_or_at, get_or-append_right, get_or_append_left}
+use Rattle.std.proofs.lemmas.List.{length-append, length-map, get_or-append_right}
 use Rattle.std.proofs.lemmas.List.Elements.{All-nil, All-cons, All-head, All-tail, All-append, All-push, All-map}
-use Rattle.std.proofs.lemmas.List.Sums.{suffix_len_is, AllPass-from_list_all}
+use Rattle.std.proofs.lemmas.List.Sums.{AllPass-from_list_all}
 use Rattle.std.proofs.lemmas.Option.{slice_get-get_or}
-use Rattle.sr_text.specs.Text.{is_blank, skip_blanks, drop_end_blanks, cut_line}
-use Rattle.sr_text.specs.Lines.{numbered, with_line_feed}
+use Rattle.sr_text.specs.Text.{is_blank}
 use Rattle.sr_text.proofs.lemmas.PrintedLines.{stops, not_blank, IsPrinted, ArePrinted, from_number, numbered_printed}
 use Rattle.sr_text.specs.Name.{is_name_byte, is_name}
 use Rattle.sr_model.specs.Dump.{Row}
@@ -18,7 +17,7 @@ use Rattle.netlist.specs.Circuit.{Circuit, IsCircuit}
 use Rattle.dump_reader.specs.Recording.{IsCount}
 use Rattle.dump_reader.specs.Tokens.{HasTwoTokens}
 use Rattle.dump_reader.specs.Grammar.{StatesRow, bit_read}
-use Rattle.dump_reader.specs.Print.{bit_character, row_text, printed_lines, printed}
+use Rattle.dump_reader.specs.Print.{bit_character, row_text, printed_lines}
 use Rattle.dump_reader.specs.Laws.{IsReadBack}
 use Rattle.dump_reader.proofs.Tokens.{some_bytes, not_nil}
 use Rattle.dump_reader.proofs.SameRows.{State}

@@ -1,5 +1,5 @@
 -- The grammar of a dump's text.
-use Rattle.std.specs.Prelude.{ℕ, ◌≡◌, ◌≢◌, ◌+◌, ◌*◌, ◌/◌, ◌≤◌, ◌<◌, ◌==◌, ◌||◌, Bool, true, false, List, [], ◌∷◌, ◌++◌, length, map, codes, Option, Some, None, IsSome, if◌then◌else◌, Contains}
+use Rattle.std.specs.Prelude.{ℕ, ◌≡◌, ◌≢◌, ◌≤◌, ◌<◌, ◌==◌, ◌||◌, Bool, true, false, List, [], ◌∷◌, length, map, Option, Some, None, IsSome, if◌then◌else◌, Contains}
 use Rattle.std.specs.List.{All, AllPairs, AllZip, slice_get}
 use Rattle.std.specs.Fmt.{decimal}
 use Rattle.sr_model.specs.declared.cells.Sig.{Sig}

@@ -20,14 +20,14 @@ use Rattle.netlist.specs.Circuit.{Circuit}
 use Rattle.netlist.specs.Wiring.{driver_at, is_flip_flop, signals_below}
 use Rattle.netlist.proofs.lemmas.Signals.{signals_within}
 use Rattle.dump_reader.specs.Recording.{Recording, IsCount, IsRecording, recorded}
-use Rattle.dump_reader.specs.Lines.{text_lines, numbered_from, numbered}
 use Rattle.dump_reader.specs.Grammar.{Spells}
-use Rattle.dump_reader.specs.Print.{printed, printed_lines, with_line_feed}
+use Rattle.sr_text.specs.Lines.{text_lines, numbered_from, numbered, with_line_feed}
+use Rattle.dump_reader.specs.Print.{printed, printed_lines}
 use Rattle.dump_reader.proofs.lemmas.Laws.{read_back}
 use Rattle.ratio.specs.Ratio.{in_thousandths}
 use Rattle.known_planes.specs.Counts.{known_count}
 use Rattle.report.specs.Table.{known_bit, known_row, known_rows, ratio_text, shown}
-use Rattle.report.specs.Laws.{TableIsDump}
+use Rattle.report.specs.Laws.{ShowsEachOnce, ShowsSignals, TableIsDump}
 
 -- ---- a comment line
 
@@ -196,11 +196,11 @@ no_two_signals n i j d lt within e =
     ap (λ (s : Sig). s.0) (sym (get_or-map-range_with_len number 0 n i i d (omega arith) (omega arith)) ∙ e ∙ get_or-map-range_with_len number 0 n j j d inside (omega arith)) in
     omega arith
 
-pub shown_once : (c : Circuit) (all : Bool) → AllPairs (λ a b. a ≢ b) (shown c all)
+pub shown_once : ShowsEachOnce
 shown_once c true = no_two_signals (length c.drivers)
 shown_once c false = AllPairs-filter (λ a b. a ≢ b) (λ s. is_flip_flop (driver_at c.drivers s.0)) (signals_below (length c.drivers)) (no_two_signals (length c.drivers))
 
-pub shown_within : (c : Circuit) (all : Bool) → All (λ s. s.0 < length c.drivers) (shown c all)
+pub shown_within : ShowsSignals
 shown_within c true = signals_within (length c.drivers)
 shown_within c false = All-filter (λ s. is_flip_flop (driver_at c.drivers s.0)) (λ s. s.0 < length c.drivers) (signals_below (length c.drivers)) (signals_within (length c.drivers))
 

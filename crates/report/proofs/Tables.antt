@@ -17,7 +17,8 @@ use Rattle.sr_model.specs.declared.cells.Sig.{Sig}
 use Rattle.sr_model.specs.declared.cells.Lit.{Lit}
 use Rattle.sr_model.specs.Dump.{Row}
 use Rattle.netlist.specs.Circuit.{Circuit}
-use Rattle.dump_reader.specs.Print.{row_text, with_line_feed, printed}
+use Rattle.sr_text.specs.Lines.{with_line_feed}
+use Rattle.dump_reader.specs.Print.{row_text, printed}
 use Rattle.report.specs.Rows.{head_text, row_lines}
 use Rattle.known_planes.specs.Counts.{known_count}
 use Rattle.report.specs.Table.{known_row, ratio_line, shown, table_text}

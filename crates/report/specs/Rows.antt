@@ -5,7 +5,8 @@ use Rattle.std.specs.Fmt.{decimal}
 use Rattle.sr_model.specs.declared.cells.Sig.{Sig}
 use Rattle.sr_model.specs.declared.cells.Lit.{Lit}
 use Rattle.netlist.specs.Circuit.{Circuit}
-use Rattle.dump_reader.specs.Print.{bit_character, row_text, with_line_feed}
+use Rattle.sr_text.specs.Lines.{with_line_feed}
+use Rattle.dump_reader.specs.Print.{bit_character, row_text}
 use Rattle.unroll.specs.declared.words.PinWord.{PinWord}
 use Rattle.unroll.specs.Bits.{is_set}
 use Rattle.report.specs.Table.{known_bit, known_row}

@@ -1,4 +1,13 @@
-//! Text out: tables, contradictions and refusals.
+//! Text out: tables, contradictions, load lines and refusals. No call takes memory, apart from the room of a row.
+//!
+//! `table` writes a table from planes, each row made whole in the room of `row_buf`, with the ratio as `ratio_text` has it; `clash` writes the line of a
+//! contradiction, `load` that of a load netlist. `refusal` has every refusal that exists: `refusal_lines` writes those of a netlist and a dump,
+//! `word_lines` those of the words. All of it is put to a sink by `pieces`, and each contract gives the exact bytes, and a fault only where the sink
+//! counted one. `laws` says that a table is a dump, that it says only what holds, and that it makes the same rows again.
+//!
+//! Only tested: how the pieces of a line are put, one by one or in part.
+//!
+//! Limits: a row has 8,449 bytes, for a name of 255 bytes and 8,192 cycles.
 #![tactic(auto)]
 
 mod clash;

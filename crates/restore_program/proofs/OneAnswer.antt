@@ -54,7 +54,7 @@ same_held held name bytes other first second = same_Some bytes other (sym first 
 
 same_circuit : (bytes : List ℕ) (c d : Circuit) → IsNetlistText bytes c → IsNetlistText bytes d → c ≡ d
 same_circuit bytes c d a b =
-    let stated : a.stated ≡ b.stated = texts.one_reading 1 (grammar.text_lines bytes) a.stated b.stated a.spells b.spells in
+    let stated : a.stated ≡ b.stated = texts.one_reading bytes a.stated b.stated a.spells b.spells in
     a.circuit ∙ ap (λ s. circuit_of (checks.without_lines s)) stated ∙ sym b.circuit
 
 same_netlist : (held : Held) (name : List ℕ) (c d : Circuit) → IsNetlistOf held name c → IsNetlistOf held name d → c ≡ d
@@ -70,7 +70,7 @@ refused_or_read : (bytes : List ℕ) (c : Circuit) (text : List ℕ) (status : S
 refused_or_read bytes c text status (netlist_too_long long) a = not_longer parts.Netlist bytes a.few long
 refused_or_read bytes c text status (bad_line r short some is) a = some (texts.not_both bytes a.stated r a.spells is)
 refused_or_read bytes c text status (no_netlist stated r short some spells is) a =
-    let same : stated ≡ a.stated = texts.one_reading 1 (grammar.text_lines bytes) stated a.stated spells a.spells in
+    let same : stated ≡ a.stated = texts.one_reading bytes stated a.stated spells a.spells in
     some (netlists_are_not_refused a.stated r a.netlist (subst (λ s. checks.IsRefusal s r) same is))
 
 same_line : (r s : NetRefusal) → SameRefusal r s → net_line r ≡ net_line s
@@ -123,7 +123,7 @@ one_refusal bytes text other status last (bad_line r _ some is) (no_netlist stat
 one_refusal bytes text other status last (no_netlist _ _ short _ _ _) (netlist_too_long long) = absurd (not_longer parts.Netlist bytes short long)
 one_refusal bytes text other status last (no_netlist stated _ _ _ spells _) (bad_line r _ some is) = absurd (some (texts.not_both bytes stated r spells is))
 one_refusal bytes text other status last (no_netlist stated r _ some spells is) (no_netlist again s _ some_s spells_s is_s) =
-    let same : stated ≡ again = texts.one_reading 1 (grammar.text_lines bytes) stated again spells spells_s in
+    let same : stated ≡ again = texts.one_reading bytes stated again spells spells_s in
     (same_line r s (refusal_is_unique again r s (subst (λ x. checks.IsRefusal x r) same is) is_s some some_s), refl)
 
 -- ---- one answer to a dump
