@@ -1,12 +1,11 @@
 -- A list of names has one trace at most.
-use Rattle.std.proofs.Common.{ℕ, ◌≡◌, ◌<◌, ◌≤◌, ◌⊎◌, ◌+◌, Option, Some, List, [], ◌∷◌, ◌++◌, length, map, get_or, ⊎_elim, inl, inr, arith, refl, sym, ap, subst, ◌∙◌}
+use Rattle.std.proofs.Common.{ℕ, ◌≡◌, ◌<◌, ◌≤◌, ◌⊎◌, ◌+◌, Option, Some, None, List, [], ◌∷◌, ◌++◌, length, map, get_or, inl, inr, arith, refl, sym, ap, subst, ◌∙◌}
 use Rattle.std.specs.List.{All, Contains, slice_get}
 use Rattle.std.proofs.Math.Seq.{get_or-append_seam}
-use Rattle.std.proofs.lemmas.List.{get_or_append_left, length-append}
-use Rattle.std.proofs.lemmas.List.Elements.{Contains-append_right}
+use Rattle.std.proofs.lemmas.List.{get_or_append_left, get_or-map, length-append, length-map}
+
 use Rattle.std.proofs.lemmas.Option.{get_or_from_slice_get, slice_get_within}
 use Rattle.sr_model.specs.declared.cells.Sig.{Sig}
-use Rattle.sr_model.proofs.lemmas.Members.{Contains-cases, Contains-here, not_in_nil}
 use Rattle.netlist.specs.Circuit.{Circuit, IsCircuit}
 use Rattle.sr_model.specs.Limits.{block_count, max_blocks}
 use Rattle.dump_reader.specs.Print.{printed}
@@ -25,13 +24,11 @@ module _ (c : Circuit) where
 
   -- a name that is listed is that of a signal
   its-signal : (names : List (List ℕ)) (sigs : List Sig) → map name_of_signal sigs ≡ map Some names → (name : List ℕ) → Contains names name → (sig : Sig) × (name_of_signal sig ≡ Some name)
-  its-signal [] sigs same name h = absurd (not_in_nil name h)
-  its-signal (first ∷ names) [] same name h = absurd (cc)
-  its-signal (first ∷ names) (sig ∷ sigs) same name h =
-      ⊎_elim
-      (λ (here : first ≡ name). let is : name_of_signal sig ≡ Some first = cc in (sig, is ∙ ap Some here))
-      (λ (later : Contains names name). let rest : map name_of_signal sigs ≡ map Some names = cc in its-signal names sigs rest name later)
-      (Contains-cases first names name h)
+  its-signal names sigs same name (k, below, at) =
+      let as_many : length names ≡ length sigs = sym (length-map Some names) ∙ ap length (sym same) ∙ length-map name_of_signal sigs in
+      let sig : Sig = get_or sigs k (record { 0 = 0 }) in
+      let its : name_of_signal sig ≡ get_or (map name_of_signal sigs) k None = sym (get_or-map name_of_signal sigs k (record { 0 = 0 }) None (subst (λ n. k < n) as_many below)) in
+      (sig, its ∙ ap (λ xs. get_or xs k None) same ∙ get_or-map Some names k name None below ∙ ap Some at)
 
   module _ (is : IsCircuit c) where
     one-signal : (a b : Sig) (name : List ℕ) → name_of_signal a ≡ Some name → name_of_signal b ≡ Some name → a ≡ b
@@ -67,7 +64,7 @@ module _ (c : Circuit) where
   -- names of signals, each once, have none that is wrong
   none-unknown : (names : List (List ℕ)) (sigs : List Sig) (before : List (List ℕ)) (name : List ℕ) (after : List (List ℕ)) → AreNamed c names sigs → names ≡ before ++ name ∷ after → Contains c.names name
   none-unknown names sigs before name after named whole =
-      listed names sigs named name (subst (λ xs. Contains xs name) (sym whole) (Contains-append_right before (name ∷ after) name (Contains-here name after)))
+      listed names sigs named name (subst (λ xs. Contains xs name) (sym whole) (length before, omega (arith, length-append before (name ∷ after)), get_or-append_seam before name after name))
 
   none-twice : (names : List (List ℕ)) (sigs : List Sig) (before : List (List ℕ)) (name : List ℕ) (after : List (List ℕ)) → AreNamed c names sigs → names ≡ before ++ name ∷ after → ¬ Contains before name
   none-twice names sigs before name after named whole (k, below, at) =
