@@ -17,6 +17,7 @@ mod OtherReaders
 mod Outputs
 mod OwnPin
 mod PinCounts
+mod PinPlaces
 mod PinSignals
 mod Places
 mod Placing

@@ -1,5 +1,5 @@
 -- What a netlist's drivers say of each signal: what drives it, its pins and its readers.
-use Rattle.std.specs.Prelude.{ℕ, ◌%◌, ◌<◌, ◌==◌, ◌&&◌, ◌||◌, ⊤, Bool, true, false, not, List, [], length, map, Option, Some, None, slice_index_or}
+use Rattle.std.specs.Prelude.{ℕ, ◌≡◌, ◌%◌, ◌<◌, ◌==◌, ◌&&◌, ◌||◌, ⊤, Bool, true, false, not, List, [], length, map, Option, Some, None, slice_get, slice_index_or}
 use Rattle.std.specs.List.{All, filter, list_any, count_by, range_with_len, sum_by}
 use Rattle.sr_model.specs.declared.gates.Kind.{Kind}
 use Rattle.sr_model.specs.declared.cells.Sig.{Sig}
@@ -74,6 +74,10 @@ is_odd_pin driver s = count_by (λ pin. pin.0 == s.0) (pins_of driver) % 2 == 1
 -- and so for each of the signals of the gate or flip-flop that drives s, in their order
 abbrev pub pin_parities : List Driver → Sig → List Bool
 pin_parities drivers s = map (is_odd_pin (driver_at drivers s.0)) (signals_of drivers s)
+
+-- at these places among the signals of the gate or flip-flop that drives s stand its pins, from left to right
+abbrev pub ArePinPlaces : List Driver → Sig → List ℕ → Type 0
+ArePinPlaces drivers s places = map (slice_get (signals_of drivers s)) places ≡ map Some (pins_of (driver_at drivers s.0))
 
 -- each pin is a signal of the netlist
 abbrev pub IsWired : List Driver → Type 0

@@ -9,6 +9,7 @@ mod names;
 mod netlist;
 mod numbers;
 mod parities;
+mod pin_places;
 mod ranks;
 mod readers;
 mod signals;

@@ -6,7 +6,7 @@ ghost use Rattle.netlist.specs.Checks.{IsRefusal};
 ghost use Rattle.netlist.specs.Circuit.{IsCircuit, IsNetlist, circuit_of};
 ghost use Rattle.netlist.specs.Numbering.{IsStatement};
 ghost use Rattle.netlist.specs.Ranks.{IsOrder};
-ghost use Rattle.netlist.specs.Wiring.{driver_at, kind_of, pins_of, readers, other_readers, signals_of, pin_parities, flip_flops};
+ghost use Rattle.netlist.specs.Wiring.{driver_at, kind_of, pins_of, readers, other_readers, signals_of, pin_parities, flip_flops, ArePinPlaces};
 
 use crate::checks::NetRefusal;
 use crate::loops::{Loop, gate_order};
@@ -163,6 +163,14 @@ impl Netlist {
         ensures { result.now ≡ pin_parities self.now.drivers s }
     {
         self.wiring.pin_parities(s)
+    }
+
+    /// For each pin of the gate or flip-flop that drives a signal, from left to right, its place among `signals_of`.
+    pub fn pin_places(&self, s: Sig) -> &[u16]
+        requires { s.0 < length self.now.drivers }
+        ensures { ArePinPlaces self.now.drivers s result.now }
+    {
+        self.wiring.pin_places(s)
     }
 
     /// The signals that gates drive, by rank and then by number: inputs and flip-flops have rank 0, and a gate has one more than the greatest rank of its pins.

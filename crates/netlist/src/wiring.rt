@@ -2,12 +2,13 @@
 ghost use Rattle.std.specs.Prelude.{◌≡◌, ◌<◌, ◌≤◌, List, length, IfOk};
 ghost use Rattle.std.specs.List.{All};
 ghost use Rattle.sr_model.specs.Limits.{max_signals};
-ghost use Rattle.netlist.specs.Wiring.{driver_at, kind_of, pins_of, readers, other_readers, signals_of, pin_parities, flip_flops, is_flip_flop, IsWired};
+ghost use Rattle.netlist.specs.Wiring.{driver_at, kind_of, pins_of, readers, other_readers, signals_of, pin_parities, flip_flops, is_flip_flop, ArePinPlaces, IsWired};
 ghost use Rattle.netlist.specs.Nodes.{IsNodeWithin, driver_of, drivers_from};
 ghost use Rattle.sr_model.specs.declared.cells.Sig.{Sig as AnySig};
 
 use crate::lists::SigLists;
 use crate::parities::parities_beside;
+use crate::pin_places::{PinPlaces, pin_places};
 use crate::readers::{keep_others, reader_entries};
 use crate::signals::signal_entries;
 use sr_model::{Kind, NoMemory, Sequence, Sig};
@@ -40,6 +41,7 @@ pub(crate) struct Wiring {
     signals: SigLists,
     /// Beside the lists of signals.
     parities: Vec<bool>,
+    places: PinPlaces,
     flip_flop_sigs: Vec<Sig>,
 }
 
@@ -53,13 +55,13 @@ impl Model for Wiring {
 
     ghost view = { λ w. drivers_from w.pins.items w.nodes.items };
 
-    ghost invariant = { λ w. IsIndexed w.pins.items w.nodes.items w.readers w.other_readers w.signals w.parities.items w.flip_flop_sigs.items };
+    ghost invariant = { λ w. IsIndexed w.pins.items w.nodes.items w.readers w.other_readers w.signals w.parities.items w.places.starts.items w.places.places.items w.flip_flop_sigs.items };
 }
 
 impl Wiring {
     /// The netlist of these nodes and pins.
     ///
-    /// Time is linear in the number of signals and pins. Besides what it is given it keeps 29 bytes a signal, 13 a pin and eight a flip-flop at most,
+    /// Time is linear in the number of signals and pins. Besides what it is given it keeps 37 bytes a signal, 15 a pin and eight a flip-flop at most,
     /// and while it runs it takes sixteen more a signal and eight more a pin.
     pub(crate) fn new(alloc: Global, nodes: Vec<Node>, pins: Vec<Sig>) -> Result<Wiring, NoMemory>
         requires nodes { All (IsNodeWithin (length pins.items)) nodes.items }
@@ -76,6 +78,7 @@ impl Wiring {
         let entries = signal_entries(alloc, &nodes, &pins, &readers)?;
         let signals = SigLists::new(alloc, entries.as_slice(), nodes.len())?;
         let parities = parities_beside(alloc, &nodes, &pins, &signals)?;
+        let places = pin_places(alloc, &nodes, &pins, &signals)?;
         Ok(Wiring {
             nodes,
             pins,
@@ -83,6 +86,7 @@ impl Wiring {
             other_readers,
             signals,
             parities,
+            places,
             flip_flop_sigs,
         })
     }
@@ -142,6 +146,15 @@ impl Wiring {
         ensures { result.now ≡ pin_parities self.now s }
     {
         self.signals.beside(s, &self.parities)
+    }
+
+    /// For each of the pins, from left to right, its place among `signals_of`.
+    pub(crate) fn pin_places(&self, s: Sig) -> &[u16]
+        requires { s.0 < length self.now }
+        ensures { ArePinPlaces self.now s result.now }
+    {
+        let start = self.places.starts[s.0 as usize];
+        &self.places.places[start..start + self.pins_of(s).len()]
     }
 
     /// The signals that a flip-flop drives, ascending.

@@ -4,6 +4,7 @@ use Rattle.std.specs.List.{All, filter}
 use Rattle.netlist.specs.declared.lists.Entry.{Entry}
 use Rattle.netlist.specs.Entries.{items_in, AreMarksOf}
 use Rattle.netlist.specs.Wiring.{readers, signals_of, pin_parities, flip_flops}
+use Rattle.netlist.specs.Indexed.{ArePlaces}
 use Rattle.netlist.specs.Nodes.{drivers_from}
 use Rattle.netlist.proofs.OtherReaders.{is_other, differs, items_in-others}
 use Rattle.netlist.proofs.wiring.Wiring.new.Goals as goal
@@ -15,7 +16,7 @@ new-requires-2 c =
     subst (All (λ (r : Entry). r.list.0 < c.len-2.result)) (sym c.into_vec-entries.ensures) (subst (λ n. All (λ (r : Entry). r.list.0 < n) c.in_ok-reader_entries.field-0.items) size c.in_ok-reader_entries.ensures.pins) in
     subst (All (λ (r : Entry). r.list.0 < c.len-2.result)) (sym (c.deref-5.ensures.value ∙ c.keep_others.ensures)) (All-filter is_other (λ (r : Entry). r.list.0 < c.len-2.result) c.into_vec-entries.result.items all)
 
-reader_items : (c : goal.In_ok-parities) (s : ℕ) → items_in c.into_vec-entries.result.items s ≡ readers (drivers_from c.args.pins.items c.args.nodes.items) (record { 0 = s })
+reader_items : (c : goal.In_ok-places) (s : ℕ) → items_in c.into_vec-entries.result.items s ≡ readers (drivers_from c.args.pins.items c.args.nodes.items) (record { 0 = s })
 reader_items c s =
     ap (λ entries. items_in entries s) c.into_vec-entries.ensures
     ∙ c.in_ok-reader_entries.ensures.readers s ∙ ap (λ pins. readers (drivers_from pins c.deref-2.result.now) (record { 0 = s })) c.deref-3.ensures.value
@@ -46,5 +47,8 @@ invariant_of-result c = record {
   all_parities =
       subst (λ nodes. AreMarksOf c.in_ok-signals.signals c.in_ok-parities.parities.items (pin_parities (drivers_from c.args.pins.items nodes))) c.deref-8.ensures.value
       (subst (λ pins. AreMarksOf c.in_ok-signals.signals c.in_ok-parities.parities.items (pin_parities (drivers_from pins c.deref-8.result.now))) c.deref-9.ensures.value c.in_ok-parities.ensures);
+  all_places =
+      subst (λ nodes. ArePlaces (drivers_from c.args.pins.items nodes) (length nodes) c.in_ok-places.places.starts.items c.in_ok-places.places.places.items) c.deref-10.ensures.value
+      (subst (λ pins. ArePlaces (drivers_from pins c.deref-10.result.now) (length c.deref-10.result.now) c.in_ok-places.places.starts.items c.in_ok-places.places.places.items) c.deref-11.ensures.value c.in_ok-places.ensures);
   all_flip_flops = c.in_ok-flip_flop_sigs.ensures c.args.pins.items ∙ ap (λ nodes. flip_flops (drivers_from c.args.pins.items nodes)) c.deref.ensures.value;
 }
