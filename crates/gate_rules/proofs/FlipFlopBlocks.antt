@@ -13,6 +13,7 @@ use Rattle.unroll.specs.declared.words.PinWord.{PinWord}
 use Rattle.unroll.specs.Bits.{is_set, is_cycle, word_for}
 use Rattle.unroll.specs.Problem.{Unrolling, chunks_in, block_at, sig_at, chunk_at, cell_of}
 use Rattle.unroll.specs.Tasks.{task_at}
+use Rattle.unroll.proofs.lemmas.Tasks.{lane-bit, lane-chunk}
 use Rattle.unroll.proofs.lemmas.Laws.{block-sig, block-chunk, block-itself, cycle-chunk}
 use Rattle.gate_rules.specs.declared.flip_flops.CellBlocks.{CellBlocks}
 use Rattle.gate_rules.specs.Forced.{ForcedInCycles, words_of, view_has}
@@ -22,12 +23,6 @@ use Rattle.gate_rules.proofs.FlipFlopForced.{IsShared, task-forces}
 -- a cycle by its chunk and bit
 digits : (m i c j : ℕ) → i < 64 → j < 64 → 64 * m + i ≡ 64 * c + j → (m ≡ c) × (i ≡ j)
 digits m i c j p q e = (omega arith, omega arith)
-
-chunk-of : (c i : ℕ) → i < 64 → (64 * c + i) / 64 ≡ c
-chunk-of c i h = omega arith
-
-bit-of : (c i : ℕ) → i < 64 → (64 * c + i) % 64 ≡ i
-bit-of c i h = omega arith
 
 module _ (u : Unrolling) where
   -- the cell of a bit of a signal's block
@@ -46,8 +41,8 @@ module _ (u : Unrolling) where
     known-at : (s : Sig) (c i : ℕ) → i < 64 → 64 * c + i < u.cycles
         → is_set (word_for bit (words_of blocks view (block_at u s c))) i ≡ view_has u blocks view (lit (cell_at (64 * c + i) s) bit)
     known-at s c i h early =
-        ap (λ n. is_set (word_for bit (words_of blocks view (block_at u s n))) i) (sym (chunk-of c i h))
-        ∙ ap (is_set (word_for bit (words_of blocks view (block_at u s ((64 * c + i) / 64))))) (sym (bit-of c i h))
+        ap (λ n. is_set (word_for bit (words_of blocks view (block_at u s n))) i) (sym (lane-chunk c i h))
+        ∙ ap (is_set (word_for bit (words_of blocks view (block_at u s ((64 * c + i) / 64))))) (sym (lane-bit c i h))
         ∙ ap (λ b. b && is_set (word_for bit (words_of blocks view (block_at u s ((64 * c + i) / 64)))) ((64 * c + i) % 64)) (sym (lt-ltb (64 * c + i) u.cycles early))
 
     -- the same of the cycle after
@@ -232,9 +227,9 @@ module _ (u : Unrolling) (target pin : Sig) (chunk : ℕ) (early : chunk < chunk
               let says : (64 * chunk + a.lane + 1 < u.cycles) × (is_set mask a.lane ≡ true) × KnownAt a.lane = (shared-says a.lane a.within).0 a.set in
               exact.1 (record {
                 cycle = 64 * chunk + a.lane;
-                in_chunk = chunk-of chunk a.lane a.within;
+                in_chunk = lane-chunk chunk a.lane a.within;
                 in_time = says.0;
-                in_mask = ap (is_set mask) (bit-of chunk a.lane a.within) ∙ says.1;
+                in_mask = ap (is_set mask) (lane-bit chunk a.lane a.within) ∙ says.1;
                 has_cell = a.cell;
                 is_known = says.2;
               }),

@@ -1,5 +1,5 @@
 -- What a gate's task forces in a cycle of its chunk is what the gate's instance there forces.
-use Rattle.std.proofs.Common.{ℕ, ◌≡◌, ◌≢◌, ◌+◌, ◌*◌, ◌/◌, ◌%◌, ◌<◌, ◌≤◌, ◌↔◌, ◌&&◌, Bool, true, false, List, length, map, get_or, arith, inl, inr, refl, sym, ap, ◌∙◌, subst}
+use Rattle.std.proofs.Common.{ℕ, ◌≡◌, ◌≢◌, ◌+◌, ◌*◌, ◌%◌, ◌<◌, ◌≤◌, ◌↔◌, ◌&&◌, Bool, true, false, List, length, map, get_or, arith, inl, inr, refl, sym, ap, ◌∙◌, subst}
 use Rattle.std.specs.Prelude.{IsTrue}
 use Rattle.std.specs.List.{Contains}
 use Rattle.std.proofs.lemmas.Bool.{cases_Bool, and_parts, and_from, ltb-true, lt-ltb, true≢false}
@@ -27,7 +27,7 @@ use Rattle.unroll.specs.Bits.{is_set, is_cycle, word_for}
 use Rattle.unroll.specs.Problem.{Unrolling, unrolled, IsProblem, chunks_in, block_at, sig_at, cell_of}
 use Rattle.unroll.specs.Tasks.{blocks_from, task_at}
 use Rattle.unroll.proofs.lemmas.Laws.{block-sig, block-chunk}
-use Rattle.unroll.proofs.lemmas.Tasks.{pin-count}
+use Rattle.unroll.proofs.lemmas.Tasks.{lane-bit, lane-chunk, pin-count}
 use Rattle.gate_rules.specs.Lanes.{words_at_place, IsLane}
 use Rattle.gate_rules.specs.Forced.{ForcedInCycles, IsForcedExactlyIn, bit_at_place, lit_at_place, view_has}
 use Rattle.gate_rules.proofs.GateLanes.{gate-delay, lane_place, lane_cells, count, block-here, cell-there, count-cells, two-cells, gate-lane, odd-there}
@@ -42,12 +42,6 @@ gate-cycle kind pins p c none h =
 
 place-is : (p : Place) (n : ℕ) (s : Sig) → p.cycle ≡ n → p.target ≡ s → p ≡ record { cycle = n; target = s }
 place-is p n s e f = ap (λ m. record { cycle = m; target = p.target }) e ∙ ap (λ t. record { cycle = n; target = t }) f
-
-chunk-of : (chunk i : ℕ) → i < 64 → chunk ≡ (64 * chunk + i) / 64
-chunk-of chunk i lane = omega (arith, lane)
-
-bit-of : (chunk i : ℕ) → i < 64 → i ≡ (64 * chunk + i) % 64
-bit-of chunk i lane = omega (arith, lane)
 
 module _ (u : Unrolling) (target : Sig) (chunk : ℕ) (early : chunk < chunks_in u) (kind : Kind) (pins : List Sig)
     (driver : driver_at u.circuit.drivers target.0 ≡ Driven kind pins) (none : delay kind ≡ 0) (mask : ℕ) (known : Lit → Bool) (i : ℕ) where
@@ -67,7 +61,7 @@ module _ (u : Unrolling) (target : Sig) (chunk : ℕ) (early : chunk < chunks_in
       let in_cycle : 64 * chunk + i ≡ f.place.cycle = gate-cycle kind pins f.place (cell_at (64 * chunk + i) s) none forced.on_cells in
       let in_time : f.place.cycle + delay st.kind < u.cycles = st.in_time in (
         omega (arith, in_cycle, in_time),
-        ap (is_set mask) (bit-of chunk i lane ∙ ap (λ n. n % 64) in_cycle) ∙ f.in_mask,
+        ap (is_set mask) (sym (lane-bit chunk i lane) ∙ ap (λ n. n % 64) in_cycle) ∙ f.in_mask,
         subst (λ (q : Place). Forces (instance_of kind pins q) (passing known) (lit (cell_at (64 * chunk + i) s) bit)) (place-is f.place (64 * chunk + i) target (sym in_cycle) at_target) forced,
       )
 
@@ -75,8 +69,8 @@ module _ (u : Unrolling) (target : Sig) (chunk : ℕ) (early : chunk < chunks_in
   pub instance-task : (l : Lit) → i < 64 → 64 * chunk + i < u.cycles → is_set mask i ≡ true → Forces (instance_of kind pins (lane_place target chunk i)) (passing known) l → ForcedInCycles u (task_at u target chunk) mask known l
   instance-task l lane in_time masked f = record {
     place = lane_place target chunk i;
-    belongs = (block-sig u target chunk early, block-chunk u target chunk early ∙ chunk-of chunk i lane);
-    in_mask = ap (is_set mask) (sym (bit-of chunk i lane)) ∙ masked;
+    belongs = (block-sig u target chunk early, block-chunk u target chunk early ∙ sym (lane-chunk chunk i lane));
+    in_mask = ap (is_set mask) (lane-bit chunk i lane) ∙ masked;
     forces = record {
       instance = instance_of kind pins (lane_place target chunk i);
       stands = stands-at (unrolled u) (lane_place target chunk i) kind pins driver (omega (arith, in_time, none));

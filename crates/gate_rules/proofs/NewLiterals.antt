@@ -1,5 +1,5 @@
 -- What is forced is in time, and what of it the view does not have.
-use Rattle.std.proofs.Common.{ℕ, ◌≡◌, ◌+◌, ◌*◌, ◌/◌, ◌%◌, ◌<◌, ◌≤◌, ◌&&◌, Bool, true, not, List, length, get_or, set, arith, sym, ap, ◌∙◌}
+use Rattle.std.proofs.Common.{ℕ, ◌≡◌, ◌+◌, ◌*◌, ◌%◌, ◌<◌, ◌≤◌, ◌&&◌, Bool, true, not, List, length, get_or, set, arith, sym, ap, ◌∙◌}
 use Rattle.std.specs.List.{AllPairs}
 use Rattle.std.proofs.lemmas.Bool.{and_parts, and_from, not-true, not_from_false, lt-ltb}
 use Rattle.sr_model.specs.declared.cells.Lit.{Lit}
@@ -7,8 +7,8 @@ use Rattle.unroll.specs.declared.problem.Block.{Block}
 use Rattle.unroll.specs.declared.problem.Task.{Task}
 use Rattle.unroll.specs.declared.words.PinWord.{PinWord}
 use Rattle.unroll.specs.Bits.{is_set, word_for}
-use Rattle.unroll.specs.Problem.{Unrolling, chunk_at, sig_at, block_at, block_of, cell_of, HaveNoLaterBit}
-use Rattle.unroll.proofs.lemmas.Laws.{block-itself, role}
+use Rattle.unroll.specs.Problem.{Unrolling, chunk_at, block_of, bit_of, cell_of, HaveNoLaterBit}
+use Rattle.unroll.proofs.lemmas.Laws.{cell-bit, role}
 use Rattle.unroll.proofs.lemmas.Tasks.{cell-in_time}
 use Rattle.gate_rules.specs.Lanes.{words_at_place}
 use Rattle.gate_rules.specs.Forced.{ForcedIn, ForcedInCycles, IsForcedExactly, IsForcedExactlyIn, IsNewExactly, bit_at_place, lit_at_place, view_has, words_of}
@@ -46,19 +46,11 @@ module _ (u : Unrolling) (t : Task) (blocks : List Block) (view words : List Pin
       → (lit_at_place u blocks j bit i).cell.cycle < u.cycles → view_has u blocks view (lit_at_place u blocks j bit i) ≡ bit_at_place view j bit i
   view-at up size j i bit within lane early =
       let b : Block = get_or blocks j (record { 0 = 0 }) in
-      let chunk : (64 * chunk_at u b + i) / 64 ≡ chunk_at u b = over (chunk_at u b) in
-      let place : (64 * chunk_at u b + i) % 64 ≡ i = rest (chunk_at u b) in
-      let block : block_of u (cell_of u b i) ≡ b = ap (block_at u (sig_at u b)) chunk ∙ block-itself u b in
-      ap (λ x. x && is_set (word_for bit (words_of blocks view (block_of u (cell_of u b i)))) ((64 * chunk_at u b + i) % 64)) (lt-ltb (64 * chunk_at u b + i) u.cycles early)
-      ∙ ap (λ (c : Block). is_set (word_for bit (words_of blocks view c)) ((64 * chunk_at u b + i) % 64)) block
-      ∙ ap (λ w. is_set (word_for bit w) ((64 * chunk_at u b + i) % 64)) (words_of-place blocks view up size j (record { 0 = 0 }) within)
-      ∙ ap (is_set (word_for bit (words_at_place view j))) place
-    where
-      over : (c : ℕ) → (64 * c + i) / 64 ≡ c
-      over c = omega (arith, lane)
-
-      rest : (c : ℕ) → (64 * c + i) % 64 ≡ i
-      rest c = omega (arith, lane)
+      let at : (block_of u (cell_of u b i) ≡ b) × (bit_of (cell_of u b i) ≡ i) = cell-bit u b i lane in
+      ap (λ x. x && is_set (word_for bit (words_of blocks view (block_of u (cell_of u b i)))) (bit_of (cell_of u b i))) (lt-ltb (64 * chunk_at u b + i) u.cycles early)
+      ∙ ap (λ (c : Block). is_set (word_for bit (words_of blocks view c)) (bit_of (cell_of u b i))) at.0
+      ∙ ap (λ w. is_set (word_for bit w) (bit_of (cell_of u b i))) (words_of-place blocks view up size j (record { 0 = 0 }) within)
+      ∙ ap (is_set (word_for bit (words_at_place view j))) at.1
 
   -- the forced literals that the view does not have
   pub new_exactly : (new : List PinWord) → AllPairs (λ a b. a.0 < b.0) blocks → length view ≡ length blocks → IsForcedExactly u t blocks view words

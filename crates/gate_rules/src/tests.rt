@@ -3,18 +3,10 @@ mod flip_flops;
 mod gates;
 
 use netlist::{Netlist, are_statements, build};
-use sr_model::{Bytes, Kind, Names, NoMemory, Numbered, Statement, Statements};
+use sr_model::{Kind, Names, NoMemory, Numbered, Statement, Statements, to_bytes};
 use std::alloc::Global;
 use std::process::Abort;
 use std::test::Fail;
-
-fn to_bytes(alloc: Global, text: &[u8]) -> Result<Bytes, NoMemory> {
-    let mut bytes = Bytes::new(alloc);
-    for byte in text {
-        bytes.push(*byte)?;
-    }
-    Ok(bytes)
-}
 
 fn to_names(alloc: Global, texts: &[&[u8]]) -> Result<Names, NoMemory> {
     let mut names = Names::new(alloc);
