@@ -1,15 +1,16 @@
 -- There is an execution with given bits on the inputs and 0 on each flip-flop in cycle 0.
-use Rattle.std.proofs.Common.{ℕ, suc, zero, ◌≡◌, ◌<◌, ◌≤◌, ◌+◌, ◌*◌, Bool, true, false, cond, eqb, List, [], ◌∷◌, ◌++◌, length, map, get_or, Some, arith, inl, inr, refl, sym, ap, subst, ◌∙◌}
+use Rattle.std.proofs.Common.{ℕ, suc, zero, ◌≡◌, ◌<◌, ◌≤◌, ◌+◌, ◌*◌, Bool, true, false, not, cond, eqb, List, [], ◌∷◌, ◌++◌, length, map, get_or, Some, arith, inl, inr, refl, sym, ap, subst, ◌∙◌}
 use Rattle.std.specs.List.{All, AllPairs, Contains}
 use Rattle.std.proofs.lemmas.Bool.{cases_Bool, cond-true, cond-false, eq-eqb, ne_eqb, true≢false}
 use Rattle.std.proofs.lemmas.List.FromFn.{get_or-map-range_with_len, length-map-range_with_len, map-range_with_len_more}
 use Rattle.std.proofs.lemmas.List.Elements.{All-contains, Contains-get_or}
 use Rattle.sr_model.specs.declared.gates.Kind.{Kind}
-use Rattle.sr_model.specs.declared.gates.Kind.TheVariants.{And, Nand, Or, Nor, Xor, Xnor, Not, Buf, Dff}
+use Rattle.sr_model.specs.declared.gates.Kind.TheVariants.{Dff}
 use Rattle.sr_model.specs.declared.cells.Sig.{Sig}
 use Rattle.sr_model.specs.declared.cells.Place.{Place}
 use Rattle.sr_model.specs.Gate.{value}
 use Rattle.sr_model.specs.Netlist.{Driver, Input, Driven, Valuation, Instance, IsRow, cell_at, delay, instance_at}
+use Rattle.sr_model.proofs.lemmas.Laws.{flip_flop-dff}
 use Rattle.sr_model.proofs.lemmas.Instances.{Stands, stands}
 use Rattle.netlist.specs.Circuit.{Circuit, IsCircuit, unrolled_over}
 use Rattle.netlist.specs.Wiring.{driver_at, pins_of, is_gate, is_flip_flop, signals_below}
@@ -19,9 +20,9 @@ use Rattle.dump_reader.specs.Recording.{IsCount}
 use Rattle.unroll.proofs.lemmas.Tasks.{delay-cases, driven-within}
 use Rattle.cycle_sim.specs.BitTable.{BitTable, bit_in}
 use Rattle.cycle_sim.specs.Simulation.{IsSimulated, AgreeOnCells, bits_of}
-use Rattle.cycle_sim.proofs.GateRows.{its-pins}
+use Rattle.cycle_sim.proofs.GateOutputs.{its-pins, map-twice}
 use Rattle.cycle_sim.proofs.PinOrder.{rank-below}
-use Rattle.cycle_sim.proofs.FrameSteps.{same-pins, map-twice, input-within}
+use Rattle.cycle_sim.proofs.FrameSteps.{same-pins, input-within}
 
 -- the sum of the ranks, which none is above
 abbrev total : List ℕ → ℕ
@@ -69,15 +70,7 @@ module _ (c : Circuit) (is : IsCircuit c) (cycles : ℕ) (given : ℕ → ℕ �
   fewer-pin cycle n s p gate h few = omega (arith, few, rank-below c.drivers ranks ranked s p gate h)
 
   not-flip_flop : (kind : Kind) (pins : List Sig) → is_flip_flop (Driven kind pins) ≡ false → is_gate (Driven kind pins) ≡ true
-  not-flip_flop Dff pins e = absurd (true≢false e)
-  not-flip_flop And pins e = refl
-  not-flip_flop Nand pins e = refl
-  not-flip_flop Or pins e = refl
-  not-flip_flop Nor pins e = refl
-  not-flip_flop Xor pins e = refl
-  not-flip_flop Xnor pins e = refl
-  not-flip_flop Not pins e = refl
-  not-flip_flop Buf pins e = refl
+  not-flip_flop kind pins e = ap not e
 
   -- more steps than enough change nothing
   module _ (a b : ℕ) (same : (n : ℕ) (p : Sig) → enough n p.0 ≤ a → enough n p.0 ≤ b → bit a n p.0 ≡ bit b n p.0) (cycle : ℕ) (s : Sig) (ha : enough cycle s.0 ≤ suc a) (hb : enough cycle s.0 ≤ suc b) where
@@ -150,7 +143,7 @@ module _ (c : Circuit) (is : IsCircuit c) (cycles : ℕ) (given : ℕ → ℕ �
             ∙ cond-true (is_flip_flop (Driven kind pins)) (delayed (bit (suc cycle * (total ranks + 1) + get_or ranks s.0 0)) (suc cycle) pins) _ flip_flop
             ∙ ap (value Dff) (pin-bits (suc cycle * (total ranks + 1) + get_or ranks s.0 0) cycle pins (λ p h.
             fewer-before cycle s.0 p.0 (suc cycle * (total ranks + 1) + get_or ranks s.0 0) (omega arith)))
-            ∙ ap (λ k. value k (map found (map (cell_at cycle) pins))) (dff kind pins flip_flop)
+            ∙ ap (λ k. value k (map found (map (cell_at cycle) pins))) (sym (flip_flop-dff kind flip_flop))
         | inr (other, none) ↦
             let at : cycle + delay kind ≡ cycle = omega (arith, none) in
             ap (λ n. found (cell_at n s)) at ∙ last-step cycle s ∙ ap (step (bit (cycle * (total ranks + 1) + get_or ranks s.0 0)) cycle s.0) driver
@@ -159,10 +152,6 @@ module _ (c : Circuit) (is : IsCircuit c) (cycles : ℕ) (given : ℕ → ℕ �
             fewer-pin cycle (cycle * (total ranks + 1) + get_or ranks s.0 0) s p (ap is_gate driver ∙ not-flip_flop kind pins other)
             (subst (λ d. Contains (pins_of d) p) (sym driver) h) (omega arith)))
       ]
-    where
-      dff : (k : Kind) (ps : List Sig) → is_flip_flop (Driven k ps) ≡ true → Dff ≡ k
-      dff Dff ps e = refl
-      dff _ ps e = cc
 
   pub found-simulated : IsSimulated c cycles given found
   found-simulated = record {

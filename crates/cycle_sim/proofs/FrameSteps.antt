@@ -1,5 +1,5 @@
 -- The bits of one cycle, one signal after another.
-use Rattle.std.proofs.Common.{ℕ, ◌≡◌, ◌<◌, ◌≤◌, ◌⊎◌, ◌+◌, Bool, true, false, List, [], ◌∷◌, length, map, get_or, set, Some, arith, inl, inr, refl, sym, ap, subst, ◌∙◌}
+use Rattle.std.proofs.Common.{ℕ, ◌≡◌, ◌<◌, ◌≤◌, ◌⊎◌, ◌+◌, Bool, true, false, not, List, [], ◌∷◌, length, map, get_or, set, Some, arith, inl, inr, refl, sym, ap, subst, ◌∙◌}
 use Rattle.std.specs.List.{All, Contains}
 use Rattle.std.proofs.lemmas.Bool.{cases_Bool, cases_eq, cases_lt, true≢false}
 use Rattle.std.proofs.lemmas.List.{get_or-set_same, get_or-set_other, get_or_default}
@@ -11,6 +11,7 @@ use Rattle.sr_model.specs.declared.cells.Sig.{Sig}
 use Rattle.sr_model.specs.declared.cells.Place.{Place}
 use Rattle.sr_model.specs.Gate.{value}
 use Rattle.sr_model.specs.Netlist.{Driver, Input, Driven, Valuation, cell_at, delay}
+use Rattle.sr_model.proofs.lemmas.Laws.{flip_flop-dff}
 use Rattle.sr_model.proofs.lemmas.Instances.{instance_of, stands-at}
 use Rattle.sr_model.proofs.lemmas.Members.{Contains-here, Contains-there, filter-has, filter-passes}
 use Rattle.netlist.specs.Circuit.{Circuit, IsCircuit, unrolled_over}
@@ -21,7 +22,7 @@ use Rattle.unroll.proofs.lemmas.Tasks.{delay-cases}
 use Rattle.cycle_sim.specs.BitTable.{BitTable, bit_in}
 use Rattle.cycle_sim.specs.Simulation.{IsSimulated}
 use Rattle.cycle_sim.specs.Frames.{IsRight, in_frame, value_by}
-use Rattle.cycle_sim.proofs.GateRows.{its-pins, its-count}
+use Rattle.cycle_sim.proofs.GateOutputs.{its-pins, its-count, map-twice}
 use Rattle.cycle_sim.proofs.PinOrder.{earlier-gate}
 
 -- a right bit is set
@@ -80,10 +81,6 @@ pub same-pins : (f g : Sig → Bool) (pins : List Sig) → ((p : Sig) → Contai
 same-pins f g [] same = refl
 same-pins f g (p ∷ pins) same = ap (λ b. b ∷ map f pins) (same p (Contains-here p pins)) ∙ ap (λ bs. g p ∷ bs) (same-pins f g pins (λ q h. same q (Contains-there p pins q h)))
 
-pub map-twice : {X Y Z : Type 0} (f : Y → Z) (g : X → Y) (xs : List X) → map f (map g xs) ≡ map (λ x. f (g x)) xs
-map-twice f g [] = refl
-map-twice f g (x ∷ xs) = ap (λ ys. f (g x) ∷ ys) (map-twice f g xs)
-
 module _ (c : Circuit) (cycles : ℕ) (given : ℕ → ℕ → Bool) (v : Valuation) (sim : IsSimulated c cycles given v) (cycle : ℕ) (s : Sig) where
   row : (k : Kind) (pins : List Sig) → driver_at c.drivers s.0 ≡ Driven k pins → cycle + delay k < cycles → v (cell_at (cycle + delay k) s) ≡ value k (map (λ p. v (cell_at cycle p)) pins)
   row k pins driver early =
@@ -94,15 +91,11 @@ module _ (c : Circuit) (cycles : ℕ) (given : ℕ → ℕ → Bool) (v : Valuat
   by-driver Input at gate early = cc
   by-driver (Driven k pins) at gate early =
       elim (delay-cases k pins) [
-        | inl (flip_flop, one) ↦ absurd (not-both k pins gate flip_flop)
+        | inl (flip_flop, one) ↦ absurd (true≢false (sym gate ∙ ap not flip_flop))
         | inr (other, none) ↦
             let now : cycle + delay k ≡ cycle = omega (arith, none) in
             ap (λ n. v (cell_at n s)) (sym now) ∙ row k pins at (subst (λ n. n < cycles) (sym now) early)
       ]
-    where
-      not-both : (k : Kind) (pins : List Sig) → is_gate (Driven k pins) ≡ true → is_flip_flop (Driven k pins) ≡ true → ⊥
-      not-both Dff pins gate e = true≢false (sym gate)
-      not-both _ pins gate e = cc
 
   -- a gate's bit is what it gives
   pub gate-value : is_gate (driver_at c.drivers s.0) ≡ true → cycle < cycles → v (cell_at cycle s) ≡ value_by (driver_at c.drivers s.0) (λ p. v (cell_at cycle p))
@@ -120,9 +113,8 @@ module _ (c : Circuit) (cycles : ℕ) (given : ℕ → ℕ → Bool) (v : Valuat
       at : (d : Driver) → driver_at c.drivers s.0 ≡ d → is_flip_flop d ≡ true → (ps : List Sig) → ps ≡ pins_of d → 0 < length ps
           → v (cell_at (cycle + 1) s) ≡ v (cell_at cycle (get_or ps 0 (record { 0 = 0 })))
       at Input e is ps ps_are some = cc
-      at (Driven Dff pins) e is ps ps_are some =
-          row Dff pins e early ∙ first pins (subst (λ qs. 0 < length qs) ps_are some) ∙ ap (λ qs. v (cell_at cycle (get_or qs 0 (record { 0 = 0 })))) (sym ps_are)
-      at (Driven _ pins) e is ps ps_are some = cc
+      at (Driven k pins) e is ps ps_are some =
+          row Dff pins (e ∙ ap (λ x. Driven x pins) (flip_flop-dff k is)) early ∙ first pins (subst (λ qs. 0 < length qs) ps_are some) ∙ ap (λ qs. v (cell_at cycle (get_or qs 0 (record { 0 = 0 })))) (sym ps_are)
 
 -- what a gate gives from right pins
 pub value-same : (d : Driver) (f g : Sig → Bool) → ((p : Sig) → Contains (pins_of d) p → f p ≡ g p) → value_by d f ≡ value_by d g
@@ -155,8 +147,7 @@ flip_flop-pin c is s flip_flop pins same =
   where
     kind-is : (d : Driver) → is_flip_flop d ≡ true → kind_of d ≡ Some Dff
     kind-is Input e = cc
-    kind-is (Driven Dff pins) e = refl
-    kind-is (Driven _ pins) e = cc
+    kind-is (Driven k pins) e = ap Some (flip_flop-dff k e)
 
 -- a pin is one of the signals
 pub pin-within : (c : Circuit) → IsCircuit c → (s : Sig) (pins : List Sig) → pins ≡ pins_of (driver_at c.drivers s.0) → (j : ℕ) (d : Sig) → j < length pins → (get_or pins j d).0 < length c.drivers
@@ -183,10 +174,13 @@ first-pin c is sigs same j d h pins pins_are =
 pub not-gate : (c : Circuit) → IsCircuit c → (s : Sig) → s.0 < length c.drivers → is_gate (driver_at c.drivers s.0) ≡ false → Contains c.inputs s ⊎ (is_flip_flop (driver_at c.drivers s.0) ≡ true)
 not-gate c is s within other = at (driver_at c.drivers s.0) refl other
   where
+    double : (b : Bool) → not b ≡ false → b ≡ true
+    double true none = refl
+    double false none = absurd (true≢false none)
+
     at : (d : Driver) → driver_at c.drivers s.0 ≡ d → is_gate d ≡ false → Contains c.inputs s ⊎ (is_flip_flop (driver_at c.drivers s.0) ≡ true)
     at Input e other = inl ((is.inputs s).1 (within, e))
-    at (Driven Dff pins) e other = inr (ap is_flip_flop e)
-    at (Driven _ pins) e other = cc
+    at (Driven k pins) e other = inr (ap is_flip_flop e ∙ double (is_flip_flop (Driven k pins)) other)
 
 -- in cycle 0 each flip-flop is 0
 pub state-start : (c : Circuit) (cycles : ℕ) (given : ℕ → ℕ → Bool) (v : Valuation) → IsSimulated c cycles given v → (state : List Bool) → ((i : ℕ) → get_or state i false ≡ false) → (j : ℕ) → j < length (flip_flops c.drivers)

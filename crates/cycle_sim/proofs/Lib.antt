@@ -1,9 +1,10 @@
 mod PackedBits
 mod Drawn
-mod GateRows
+mod GateOutputs
 mod PinOrder
 mod FrameSteps
 mod Existing
+mod Simulations
 pub mod lemmas
 mod Tracing
 mod LoadSteps

@@ -1,5 +1,5 @@
 -- The statements of a load netlist stand for a netlist.
-use Rattle.std.proofs.Common.{ℕ, zero, suc, ◌≡◌, ◌≢◌, ◌+◌, ◌-◌, ◌*◌, ◌<◌, ◌≤◌, Bool, true, false, Option, Some, None, List, [], ◌∷◌, length, get_or, map, inl, inr, refl, sym, ap, subst, ◌∙◌, arith}
+use Rattle.std.proofs.Common.{ℕ, zero, suc, ◌≡◌, ◌≢◌, ◌+◌, ◌-◌, ◌*◌, ◌<◌, ◌≤◌, Bool, true, false, not, Option, Some, None, List, [], ◌∷◌, length, get_or, map, inl, inr, refl, sym, ap, subst, ◌∙◌, arith}
 use Rattle.std.specs.List.{All, AllPairs, Contains, find, flat_map, range_with_len}
 use Rattle.std.proofs.lemmas.Bool.{cases_Bool, cases_lt, cond-true, cond-false, true≢false, false≢true}
 use Rattle.std.proofs.lemmas.List.{length-append, get_or-map, get_or_past, length-map}
@@ -8,7 +8,6 @@ use Rattle.std.proofs.lemmas.List.FromFn.{length-map-range_with_len}
 use Rattle.std.proofs.lemmas.List.Kept.{AllPairs-filter}
 use Rattle.sr_model.specs.declared.cells.Sig.{Sig}
 use Rattle.sr_model.specs.declared.gates.Kind.{Kind}
-use Rattle.sr_model.specs.declared.gates.Kind.TheVariants.{Dff}
 use Rattle.sr_model.specs.Declaration.{Declaration, InputNamed, OutputNamed, DriverNamed}
 use Rattle.sr_model.specs.Netlist.{Driver, Input, Driven}
 use Rattle.sr_model.proofs.lemmas.Members.{not_in_nil, All-from_Contains, All-one, Contains-cases, Contains-there, Contains-map, filter-has, filter-passes, map-member}
@@ -20,6 +19,7 @@ use Rattle.netlist.specs.Wiring.{driver_at, flip_flops, is_flip_flop, is_gate, p
 use Rattle.netlist.proofs.lemmas.Signals.{signals_member}
 use Rattle.netlist.proofs.lemmas.Names.{AllPairs-from_apart, Contains-from_has, has-from_Contains, once-apart, get_or-place_in, get_or-map_place, place_in-get_or, place_in-lt, found_member, Contains-from_once, Contains-once, all_mentioned, driven_mentioned}
 use Rattle.unroll.proofs.lemmas.FlatMaps.{flat_map-found, flat_map-has, signals-ascend}
+use Rattle.cycle_sim.specs.Laws.{LoadsAreNetlists}
 use Rattle.cycle_sim.specs.Load.{IsLoadSize, load_name, input_count, flip_flop_count, first_gate, load_statements}
 use Rattle.cycle_sim.proofs.Apart.{no-longer, apart-drawn, range-has, range-below}
 use Rattle.cycle_sim.proofs.LoadNames.{load_name-same, load_name-stands}
@@ -53,18 +53,6 @@ target-is target n kind pins passes =
 
 input-is : (name n : List ℕ) → drives n (InputNamed name) ≡ true → name ≡ n
 input-is name n passes = elim (Contains-cases name [] n (Contains-from_has (name ∷ []) n passes)) [ inl same ↦ same | inr none ↦ absurd (not_in_nil n none) ]
-
--- ---- flip-flops and gates
-
-flip_flop-is : (kind : Kind) (pins : List Sig) → kind ≡ Dff → is_flip_flop (Driven kind pins) ≡ true
-flip_flop-is kind pins e = subst (λ (k : Kind). is_flip_flop (Driven k pins) ≡ true) (sym e) refl
-
-gate-is-none : (kind : Kind) (pins : List Sig) → kind ≡ Dff → is_gate (Driven kind pins) ≡ false
-gate-is-none kind pins e = subst (λ (k : Kind). is_gate (Driven k pins) ≡ false) (sym e) refl
-
-is-flip_flop : (kind : Kind) (pins : List Sig) → is_flip_flop (Driven kind pins) ≡ true → kind ≡ Dff
-is-flip_flop Dff pins h = refl
-is-flip_flop _ pins h = absurd (false≢true h)
 
 -- ---- the statements as a text has them, and how many pins they have
 
@@ -111,7 +99,7 @@ module _ (number signals : ℕ) (size : IsLoadSize signals) where
   fit-of : (d : Declaration) → Contains ds d → IsFit signals d
   fit-of d h = All-contains (IsFit signals) ds d (all-fit number signals size) h
 
-  pub all-stated : All IsStatement ds
+  all-stated : All IsStatement ds
   all-stated = All-weaker (IsFit signals) IsStatement (is-stated signals size) ds (all-fit number signals size)
 
   few-pins : HasFewPins ds
@@ -172,7 +160,7 @@ module _ (number signals : ℕ) (size : IsLoadSize signals) where
       let below : IsBelow fit.bound p.0 = All-contains (IsBelow fit.bound) pins p.0 fit.drawn p.1 in
       let has : Contains names p.0 = Contains-once (flat_map mentions ds) p.0 (flat_map-has mentions ds (DriverNamed target kind pins) p.0 within (Contains-there target pins p.0 p.1)) in
       elim fit.role [
-        | inl flip_flop ↦ absurd (true≢false (sym gate ∙ gate-is-none kind (map (sig_of ds) pins) flip_flop.0))
+        | inl flip_flop ↦ absurd (true≢false (sym gate ∙ ap not flip_flop.0))
         | inr lower ↦ (
           below.0,
           omega (arith, below.1, lower.2),
@@ -204,7 +192,7 @@ module _ (number signals : ℕ) (size : IsLoadSize signals) where
       let below : IsBelow signals (get_or names s.0 []) = mentioned-below (get_or names s.0 []) (Contains-get_or names s.0 [] within) in
       none-fed fed.signals fed.each below.0 s below.0 (omega arith) below.1 below.2 fed.member
 
-  pub is-netlist : IsNetlist ds
+  is-netlist : IsNetlist ds
   is-netlist = (record { few_signals = omega (arith, names-length); few_pins = few-pins; driven_once = once-driven; driven = all-driven }, no-loop)
 
   -- ---- the flip-flops
@@ -218,7 +206,7 @@ module _ (number signals : ℕ) (size : IsLoadSize signals) where
       let named : target ≡ n = target-is target n kind pins (found-passes (drives n) ds (DriverNamed target kind pins) found) in
       elim fit.role [
         | inl flip_flop ↦ (fit.index, flip_flop.1, flip_flop.2, sym named ∙ fit.named)
-        | inr gate ↦ absurd (gate.0 (is-flip_flop kind (map (sig_of ds) pins) h))
+        | inr gate ↦ absurd (true≢false (sym h ∙ gate.0))
       ]
 
   index-flip_flop : (i : ℕ) → input_count signals ≤ i → i < first_gate signals → (o : Option Declaration) → find (drives (load_name i)) ds ≡ o → is_flip_flop (driver_by (sig_of ds) o) ≡ true
@@ -236,7 +224,7 @@ module _ (number signals : ℕ) (size : IsLoadSize signals) where
       let named : target ≡ load_name i = target-is target (load_name i) kind pins (found-passes (drives (load_name i)) ds (DriverNamed target kind pins) found) in
       let same : i ≡ fit.index = load_name-same i fit.index (omega arith) (omega (arith, fit.within)) (sym named ∙ fit.named) in
       elim fit.role [
-        | inl flip_flop ↦ flip_flop-is kind (map (sig_of ds) pins) flip_flop.0
+        | inl flip_flop ↦ flip_flop.0
         | inr gate ↦ absurd (omega (arith, gate.1))
       ]
 
@@ -292,3 +280,6 @@ module _ (number signals : ℕ) (size : IsLoadSize signals) where
       let fewer : length (flip_flops (drivers_of ds)) ≤ length flip_flop_sigs = no-longer (flip_flops (drivers_of ds)) flip_flop_sigs found-apart found-among in
       let more : length flip_flop_sigs ≤ length (flip_flops (drivers_of ds)) = no-longer flip_flop_sigs (flip_flops (drivers_of ds)) sigs-apart sigs-among in
       omega (arith, length-map-range_with_len flip_flop_sig 0 (flip_flop_count signals))
+
+pub loads_are_netlists : LoadsAreNetlists
+loads_are_netlists number signals size = (all-stated number signals size, is-netlist number signals size)

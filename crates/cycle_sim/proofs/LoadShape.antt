@@ -1,15 +1,16 @@
 -- What each statement of a load netlist is, and what they drive.
-use Rattle.std.proofs.Common.{ℕ, zero, suc, ◌≡◌, ◌≢◌, ◌⊎◌, ◌+◌, ◌-◌, ◌%◌, ◌<◌, ◌≤◌, List, [], ◌∷◌, ◌++◌, length, get_or, map, inl, inr, refl, sym, ap, subst, ◌∙◌, arith}
+use Rattle.std.proofs.Common.{ℕ, zero, suc, ◌≡◌, ◌≢◌, ◌⊎◌, ◌+◌, ◌-◌, ◌%◌, ◌<◌, ◌≤◌, true, false, not, List, [], ◌∷◌, ◌++◌, length, get_or, map, inl, inr, refl, sym, ap, subst, ◌∙◌, arith}
 use Rattle.std.specs.List.{All, AllPairs, Contains, flat_map, range_with_len}
-use Rattle.std.proofs.lemmas.Bool.{cases_lt}
+use Rattle.std.proofs.lemmas.Bool.{cases_Bool, cases_lt, true≢false}
 use Rattle.std.proofs.lemmas.List.{append-nil, length-append}
 use Rattle.std.proofs.lemmas.List.Concat.{flat_map-append}
 use Rattle.std.proofs.lemmas.List.Elements.{All-append, Contains-append_left, Contains-append_right, Contains-append_cases}
+use Rattle.std.proofs.lemmas.List.Folds.{list_all_at}
 use Rattle.std.proofs.lemmas.List.FromFn.{length-map-range_with_len}
 use Rattle.sr_model.specs.declared.gates.Kind.{Kind}
-use Rattle.sr_model.specs.declared.gates.Kind.TheVariants.{And, Nand, Or, Nor, Xor, Xnor, Not, Buf, Dff}
+use Rattle.sr_model.specs.declared.gates.Kind.TheVariants.{And, Not, Buf, Dff}
 use Rattle.sr_model.specs.Declaration.{Declaration, InputNamed, OutputNamed, DriverNamed}
-use Rattle.sr_model.specs.Gate.{IsPinCount}
+use Rattle.sr_model.specs.Gate.{IsPinCount, is_flip_flop_kind}
 use Rattle.sr_model.proofs.lemmas.Members.{Contains-map, All-one, map-member}
 use Rattle.netlist.specs.Numbering.{driven_name}
 use Rattle.unroll.proofs.lemmas.FlatMaps.{AllPairs-join}
@@ -23,7 +24,7 @@ IsBelow bound name = (i : ℕ) × (i < bound) × (name ≡ load_name i)
 
 -- a flip-flop, or a gate whose pins have lesser indexes
 abbrev pub HasRole : ℕ → Kind → ℕ → ℕ → Type 0
-HasRole signals kind index bound = ((kind ≡ Dff) × (input_count signals ≤ index) × (index < first_gate signals)) ⊎ ((kind ≡ Dff → ⊥) × (first_gate signals ≤ index) × (bound ≤ index))
+HasRole signals kind index bound = ((is_flip_flop_kind kind ≡ true) × (input_count signals ≤ index) × (index < first_gate signals)) ⊎ ((is_flip_flop_kind kind ≡ false) × (first_gate signals ≤ index) × (bound ≤ index))
 
 -- a gate or flip-flop of a signal, with one pin or two below a bound
 pub record IsDriver (signals : ℕ) (target : List ℕ) (kind : Kind) (pins : List (List ℕ)) : Type 0 where
@@ -44,27 +45,18 @@ IsFit signals (DriverNamed target kind pins) = IsDriver signals target kind pins
 
 -- ---- what is drawn
 
-not-flip_flop : (r : ℕ) → get_or gate_kinds r And ≡ Dff → ⊥
-not-flip_flop zero e = absurd cc
-not-flip_flop (suc zero) e = absurd cc
-not-flip_flop (suc (suc zero)) e = absurd cc
-not-flip_flop (suc (suc (suc zero))) e = absurd cc
-not-flip_flop (suc (suc (suc (suc zero)))) e = absurd cc
-not-flip_flop (suc (suc (suc (suc (suc zero))))) e = absurd cc
-not-flip_flop (suc (suc (suc (suc (suc (suc zero)))))) e = absurd cc
-not-flip_flop (suc (suc (suc (suc (suc (suc (suc zero))))))) e = absurd cc
-not-flip_flop (suc (suc (suc (suc (suc (suc (suc (suc r)))))))) e = absurd cc
+gate-drawn : (r : ℕ) → r < 8 → is_flip_flop_kind (get_or gate_kinds r And) ≡ false
+gate-drawn r within =
+    elim (cases_Bool (is_flip_flop_kind (get_or gate_kinds r And))) [
+      | inl flip_flop ↦ absurd (true≢false (list_all_at (λ k. not (is_flip_flop_kind k)) gate_kinds r And within (ap not flip_flop)))
+      | inr gate ↦ gate
+    ]
 
 count-drawn : (kind : Kind) → IsPinCount kind (drawn_pin_count kind)
-count-drawn And = (omega arith, omega arith)
-count-drawn Nand = (omega arith, omega arith)
-count-drawn Or = (omega arith, omega arith)
-count-drawn Nor = (omega arith, omega arith)
-count-drawn Xor = (omega arith, omega arith)
-count-drawn Xnor = (omega arith, omega arith)
 count-drawn Not = refl
 count-drawn Buf = refl
 count-drawn Dff = refl
+count-drawn _ = (omega arith, omega arith)
 
 few-drawn : (kind : Kind) → drawn_pin_count kind ≤ 2
 few-drawn Not = omega arith
@@ -99,7 +91,7 @@ module _ (number signals : ℕ) (size : IsLoadSize signals) where
   gate-fits : (i : ℕ) → i < gate_count signals → IsFit signals (load_gate number signals i)
   gate-fits i h =
       driver-fits number (gate_start number i + 1) (kind_drawn (load_word number (gate_start number i))) (first_gate signals + i) signals (first_gate signals + i)
-      (omega arith) (omega arith) (omega arith) (inr (not-flip_flop (load_word number (gate_start number i) % 8), omega arith, omega arith))
+      (omega arith) (omega arith) (omega arith) (inr (gate-drawn (load_word number (gate_start number i) % 8) (omega arith), omega arith, omega arith))
 
   flip_flop-fits : (i : ℕ) → i < flip_flop_count signals → IsFit signals (load_flip_flop number signals i)
   flip_flop-fits i h =

@@ -11,6 +11,7 @@ use Rattle.netlist.specs.Checks.{without_lines}
 use Rattle.netlist.specs.Circuit.{IsNetlist}
 use Rattle.netlist.proofs.lemmas.Laws.{netlists_are_not_refused}
 use Rattle.netlist.proofs.lemmas.Names.{without_lines-stated}
+use Rattle.cycle_sim.specs.Laws.{LinesDeclare}
 use Rattle.cycle_sim.specs.Load.{AreOnLines, KeepsAllRules, load_name, load_word, input_count, flip_flop_count, gate_count, pins_drawn, gate_words, gate_start, load_gate, load_flip_flop, load_statements}
 
 -- ---- one more line
@@ -82,8 +83,11 @@ module _ (ds : List Declaration) (statements : WithRoom Numbered) (on_lines : Ar
   without-lines : without_lines (declarations_of statements) ≡ ds
   without-lines = ap without_lines on_lines ∙ lines-apart 1 ds
 
-  pub declared-are : ds ≡ declared statements
-  declared-are = sym without-lines ∙ without_lines-stated statements.items
+  declared-are : declared statements ≡ ds
+  declared-are = sym (without_lines-stated statements.items) ∙ without-lines
 
   pub keeps-all : IsNetlist ds → KeepsAllRules statements
   keeps-all netlist refusal refused = netlists_are_not_refused (declarations_of statements) refusal (subst IsNetlist (sym without-lines) netlist) refused
+
+pub lines_declare : LinesDeclare
+lines_declare = declared-are

@@ -1,3 +1,2 @@
 -- The lemmas that proofs of other crates may cite.
-pub mod Simulations
-pub mod Loads
+pub mod Laws

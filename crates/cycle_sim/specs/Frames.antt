@@ -1,8 +1,11 @@
 -- The bits of one cycle while it is simulated.
-use Rattle.std.specs.Prelude.{ℕ, ◌≡◌, ◌+◌, ◌*◌, ◌<◌, Bool, true, false, List, length, map, slice_index_or, if◌then◌else◌}
+use Rattle.std.specs.Prelude.{ℕ, ◌≡◌, ◌==◌, ◌+◌, ◌*◌, ◌%◌, ◌<◌, Bool, true, false, not, List, length, map, slice_index_or, if◌then◌else◌}
 use Rattle.std.specs.List.{All}
 use Rattle.sr_model.specs.declared.cells.Sig.{Sig}
+use Rattle.sr_model.specs.declared.gates.Family.{Family}
+use Rattle.sr_model.specs.declared.gates.Family.TheVariants.{AndLike, Parity}
 use Rattle.sr_model.specs.Gate.{value}
+use Rattle.sr_model.specs.XorLike.{plus}
 use Rattle.sr_model.specs.Netlist.{Driver, Input, Driven, Valuation, cell_at}
 use Rattle.netlist.specs.Circuit.{Circuit}
 use Rattle.netlist.specs.Wiring.{driver_at, is_gate, flip_flops}
@@ -32,22 +35,27 @@ IsState c stimulus cycle state =
     (v : Valuation) → IsSimulated c stimulus.count (bit_in stimulus) v → (j : ℕ) → j < length (flip_flops c.drivers)
     → slice_index_or state j false ≡ v (cell_at cycle (slice_index_or (flip_flops c.drivers) j (record { 0 = 0 })))
 
--- which of the four rows of two bits
-abbrev pub row_of : Bool → Bool → ℕ
-row_of first second = (if first then 1 else 0) + 2 * (if second then 1 else 0)
+-- which of the four outputs is that for two bits
+abbrev pub output_index : Bool → Bool → ℕ
+output_index first second = (if first then 1 else 0) + 2 * (if second then 1 else 0)
 
 -- what a gate or flip-flop gives, where the signals have these bits
 abbrev pub value_by : Driver → (Sig → Bool) → Bool
 value_by Input bits = false
 value_by (Driven kind pins) bits = value kind (map bits pins)
 
--- The gate that drives a signal. Where it is not wide it has one or two pins, a lone one twice, and these rows: what it gives for each two bits of them.
+-- what a gate of a family gives, where so many of its pins are 1
+abbrev pub bit_by_count : Family → ℕ → ℕ → Bool
+bit_by_count (AndLike bit target) ones pins = if ones == (if bit then pins else 0) then target else not target
+bit_by_count (Parity inverted) ones pins = plus inverted (ones % 2 == 1)
+
+-- The gate that drives a signal. Where it is not wide it has one or two pins, a lone one twice, and these outputs: what it gives for each two bits of them.
 pub record IsGate (c : Circuit) (gate : Gate) : Type 0 where
   pub target : gate.target.0 < length c.drivers
   pub driven : is_gate (driver_at c.drivers gate.target.0) ≡ true
   pub first : gate.first.0 < length c.drivers
   pub second : gate.second.0 < length c.drivers
-  pub rows : gate.wide ≡ false → (bits : Sig → Bool) → slice_index_or gate.rows (row_of (bits gate.first) (bits gate.second)) false ≡ value_by (driver_at c.drivers gate.target.0) bits
+  pub outputs : gate.wide ≡ false → (bits : Sig → Bool) → slice_index_or gate.outputs (output_index (bits gate.first) (bits gate.second)) false ≡ value_by (driver_at c.drivers gate.target.0) bits
 
 -- the gates stand in the netlist's order
 pub record AreGates (c : Circuit) (gates : List Gate) : Type 0 where

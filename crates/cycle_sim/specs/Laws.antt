@@ -1,10 +1,15 @@
--- The laws of simulated executions.
+-- The laws of simulated executions, and of load netlists.
 use Rattle.std.specs.Prelude.{ℕ, ◌≡◌, ◌<◌, Bool, List, length}
 use Rattle.std.specs.List.{All}
 use Rattle.sr_model.specs.declared.cells.Sig.{Sig}
 use Rattle.sr_model.specs.Netlist.{Valuation}
 use Rattle.sr_model.specs.Dump.{Matches}
-use Rattle.netlist.specs.Circuit.{Circuit, IsCircuit}
+use Rattle.sr_model.specs.declared.statements.Numbered.{Numbered}
+use Rattle.sr_model.specs.Declaration.{Declaration, declared}
+use Rattle.sr_model.specs.Room.{WithRoom}
+use Rattle.netlist.specs.Circuit.{Circuit, IsCircuit, IsNetlist}
+use Rattle.netlist.specs.Numbering.{IsStatement}
+use Rattle.cycle_sim.specs.Load.{IsLoadSize, AreOnLines, load_statements}
 use Rattle.cycle_sim.specs.Simulation.{IsSimulated, AgreeOnInputs, AgreeOnCells, HasWhatFollows, traced_rows}
 
 -- for each number of cycles and all given bits there is one
@@ -30,3 +35,11 @@ abbrev pub TracesAgree : Type 0
 TracesAgree =
     (c : Circuit) (cycles : ℕ) (v w : Valuation) → AgreeOnCells c cycles v w
     → (sigs : List Sig) → All (λ (s : Sig). s.0 < length c.drivers) sigs → traced_rows v cycles sigs ≡ traced_rows w cycles sigs
+
+-- what is drawn from a number is the statements of a netlist
+abbrev pub LoadsAreNetlists : Type 0
+LoadsAreNetlists = (number signals : ℕ) → IsLoadSize signals → All IsStatement (load_statements number signals) × IsNetlist (load_statements number signals)
+
+-- statements on lines of their own declare what stands there
+abbrev pub LinesDeclare : Type 0
+LinesDeclare = (ds : List Declaration) (statements : WithRoom Numbered) → AreOnLines ds statements → declared statements ≡ ds

@@ -6,6 +6,7 @@ use Rattle.sr_model.specs.declared.gates.Kind.{Kind}
 use Rattle.sr_model.specs.declared.gates.Kind.TheVariants.{And, Nand, Or, Nor, Xor, Xnor, Not, Buf, Dff}
 use Rattle.sr_model.specs.declared.statements.Numbered.{Numbered}
 use Rattle.sr_model.specs.Declaration.{Declaration, InputNamed, OutputNamed, DriverNamed, declarations_of}
+use Rattle.sr_model.specs.Limits.{max_signals}
 use Rattle.sr_model.specs.Room.{WithRoom}
 use Rattle.netlist.specs.declared.checks.NetRefusal.{NetRefusal}
 use Rattle.netlist.specs.declared.checks.NetRefusal.TheVariants.{NoMemory}
@@ -14,7 +15,7 @@ use Rattle.cycle_sim.specs.Words.{word_at}
 
 -- how many signals a load netlist may have
 abbrev pub IsLoadSize : ℕ → Type 0
-IsLoadSize signals = (16 ≤ signals) × (signals ≤ 65536)
+IsLoadSize signals = (16 ≤ signals) × (signals ≤ max_signals)
 
 -- the name of the signal with this index: n and the index
 abbrev pub load_name : ℕ → List ℕ

@@ -44,12 +44,7 @@ impl BitRows {
         }
     }
 
-    pub(crate) fn width(&self) -> usize
-        ensures { result ≡ self.now.width }
-    {
-        self.width
-    }
-
+    /// How many rows there are.
     pub(crate) fn count(&self) -> usize
         ensures { result ≡ self.now.count }
     {

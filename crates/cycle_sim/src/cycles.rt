@@ -6,7 +6,7 @@ ghost use Rattle.sr_model.specs.Netlist.{Valuation, cell_at};
 ghost use Rattle.netlist.specs.Circuit.{IsCircuit};
 ghost use Rattle.netlist.specs.Wiring.{driver_at, is_flip_flop, is_gate, flip_flops};
 ghost use Rattle.dump_reader.specs.Recording.{IsCount};
-ghost use Rattle.cycle_sim.specs.BitTable.{bit_in};
+ghost use Rattle.cycle_sim.specs.BitTable.{BitTable, bit_in};
 ghost use Rattle.cycle_sim.specs.Simulation.{IsSimulated};
 ghost use Rattle.cycle_sim.specs.Frames.{AllRight, AreGates, AreRight, IsState, StayRight, in_frame};
 
@@ -69,9 +69,9 @@ fn next_cycle(
     ensures state { cycle + 1 < s.now.count → IsState n.now s.now (cycle + 1) state.new }
 {
     set_inputs(n, s, cycle, frame);
-    set_flip_flops(n, s, cycle, state, frame);
-    set_gates(n, s, cycle, gates, frame);
-    next_state(n, s, cycle, frame, state);
+    set_flip_flops(n, state, frame);
+    set_gates(n, gates, frame);
+    next_state(n, frame, state);
 }
 
 /// Sets the inputs.
@@ -90,13 +90,12 @@ fn set_inputs(n: &Netlist, s: &Stimulus, cycle: u32, frame: &mut [bool])
 }
 
 /// Sets the flip-flops.
-fn set_flip_flops(n: &Netlist, _s: &Stimulus, cycle: u32, state: &[bool], frame: &mut [bool])
-    requires state { IsState n.now _s.now cycle state.now }
+fn set_flip_flops(n: &Netlist, state: &[bool], frame: &mut [bool])
     requires size { length state.now ≡ length (flip_flops n.now.drivers) }
     requires frame { length frame.old ≡ length n.now.drivers }
     ensures size { length frame.new ≡ length frame.old }
-    ensures kept { StayRight n.now _s.now cycle frame.old frame.new }
-    ensures flip_flops { AreRight n.now _s.now cycle frame.new (λ s. is_flip_flop (driver_at n.now.drivers s.0) ≡ true) }
+    ensures kept { (s : BitTable) (cycle : ℕ) → IsState n.now s cycle state.now → StayRight n.now s cycle frame.old frame.new }
+    ensures flip_flops { (s : BitTable) (cycle : ℕ) → IsState n.now s cycle state.now → AreRight n.now s cycle frame.new (λ sig. is_flip_flop (driver_at n.now.drivers sig.0) ≡ true) }
 {
     let flip_flops = n.flip_flops();
     for j in 0..flip_flops.len() {
@@ -105,28 +104,25 @@ fn set_flip_flops(n: &Netlist, _s: &Stimulus, cycle: u32, state: &[bool], frame:
 }
 
 /// Sets the gates, each after those that drive its pins.
-fn set_gates(n: &Netlist, _s: &Stimulus, cycle: u32, gates: &[Gate], frame: &mut [bool])
+fn set_gates(n: &Netlist, gates: &[Gate], frame: &mut [bool])
     requires circuit { IsCircuit n.now }
     requires gates { AreGates n.now gates.now }
-    requires cycle { cycle < _s.now.count }
     requires frame { length frame.old ≡ length n.now.drivers }
-    requires others { AreRight n.now _s.now cycle frame.old (λ s. is_gate (driver_at n.now.drivers s.0) ≡ false) }
     ensures size { length frame.new ≡ length frame.old }
-    ensures all { AllRight n.now _s.now cycle frame.new }
+    ensures all { (s : BitTable) (cycle : ℕ) → cycle < s.count → AreRight n.now s cycle frame.old (λ sig. is_gate (driver_at n.now.drivers sig.0) ≡ false) → AllRight n.now s cycle frame.new }
 {
     for gate in gates {
         frame[gate.target.0 as usize] = gate_bit(n, frame, gate);
     }
 }
 
-/// What the flip-flops have in the next cycle, if there is one.
-fn next_state(n: &Netlist, _s: &Stimulus, cycle: u32, frame: &[bool], state: &mut [bool])
+/// Sets the state to what the flip-flops have in the next cycle, if there is one.
+fn next_state(n: &Netlist, frame: &[bool], state: &mut [bool])
     requires circuit { IsCircuit n.now }
     requires frame { length frame.now ≡ length n.now.drivers }
-    requires all { AllRight n.now _s.now cycle frame.now }
     requires size { length state.old ≡ length (flip_flops n.now.drivers) }
     ensures size { length state.new ≡ length state.old }
-    ensures state { cycle + 1 < _s.now.count → IsState n.now _s.now (cycle + 1) state.new }
+    ensures state { (s : BitTable) (cycle : ℕ) → AllRight n.now s cycle frame.now → cycle + 1 < s.count → IsState n.now s (cycle + 1) state.new }
 {
     let flip_flops = n.flip_flops();
     for j in 0..flip_flops.len() {

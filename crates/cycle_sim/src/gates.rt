@@ -5,10 +5,10 @@ ghost use Rattle.sr_model.specs.declared.cells.Sig.{Sig as AnySig};
 ghost use Rattle.sr_model.specs.Gate.{IsPinCount, value};
 ghost use Rattle.netlist.specs.Circuit.{IsCircuit};
 ghost use Rattle.netlist.specs.Wiring.{driver_at, is_gate};
-ghost use Rattle.cycle_sim.specs.Frames.{AreGates, IsGate, in_frame, row_of, value_by};
+ghost use Rattle.cycle_sim.specs.Frames.{AreGates, IsGate, bit_by_count, in_frame, output_index, value_by};
 
 use netlist::Netlist;
-use sr_model::{Kind, NoMemory, Sequence, Sig, eval};
+use sr_model::{Family, Kind, NoMemory, Sequence, Sig, eval};
 use std::alloc::Global;
 
 /// A gate: of one or two pins by what it gives for their bits, a lone pin standing twice; a wide one has more.
@@ -18,7 +18,7 @@ pub(crate) struct Gate {
     pub(crate) first: Sig,
     pub(crate) second: Sig,
     /// What it gives where the first pin and the second are 0 and 0, 1 and 0, 0 and 1, and 1 and 1.
-    pub(crate) rows: [bool; 4],
+    pub(crate) outputs: [bool; 4],
     pub(crate) wide: bool,
 }
 
@@ -52,14 +52,14 @@ fn gate_of(n: &Netlist, target: Sig) -> Gate
             target,
             first: pins[0],
             second: pins[0],
-            rows: lone_rows(kind),
+            outputs: lone_outputs(kind),
             wide: false,
         },
         2 => Gate {
             target,
             first: pins[0],
             second: pins[1],
-            rows: pair_rows(kind),
+            outputs: pair_outputs(kind),
             wide: false,
         },
         _ => wide_gate(target),
@@ -77,23 +77,23 @@ fn wide_gate(target: Sig) -> Gate
         target,
         first: target,
         second: target,
-        rows: [false; 4],
+        outputs: [false; 4],
         wide: true,
     }
 }
 
 /// What a gate of one pin gives.
-fn lone_rows(kind: Kind) -> [bool; 4]
+fn lone_outputs(kind: Kind) -> [bool; 4]
     requires { IsPinCount kind 1 }
-    ensures { (b : Bool) → slice_index_or result (row_of b b) false ≡ value kind (b ∷ []) }
+    ensures { (b : Bool) → slice_index_or result (output_index b b) false ≡ value kind (b ∷ []) }
 {
     [eval(kind, &[false]), false, false, eval(kind, &[true])]
 }
 
 /// What a gate of two pins gives.
-fn pair_rows(kind: Kind) -> [bool; 4]
+fn pair_outputs(kind: Kind) -> [bool; 4]
     requires { IsPinCount kind 2 }
-    ensures { (a b : Bool) → slice_index_or result (row_of a b) false ≡ value kind (a ∷ b ∷ []) }
+    ensures { (a b : Bool) → slice_index_or result (output_index a b) false ≡ value kind (a ∷ b ∷ []) }
 {
     [
         eval(kind, &[false, false]),
@@ -115,7 +115,7 @@ pub(crate) fn gate_bit(n: &Netlist, frame: &[bool], gate: &Gate) -> bool
     }
     let first = usize::from(frame[gate.first.0 as usize]);
     let second = usize::from(frame[gate.second.0 as usize]);
-    gate.rows[first + 2 * second]
+    gate.outputs[first + 2 * second]
 }
 
 /// What a gate of any number of pins gives in a frame, by how many of them are 1.
@@ -129,15 +129,21 @@ fn wide_bit(n: &Netlist, frame: &[bool], target: Sig) -> bool
     let pins = n.pins_of(target);
     let ones = ones_among(frame, pins);
     match n.kind_of(target) {
-        Some(Kind::And) => ones == pins.len(),
-        Some(Kind::Nand) => ones != pins.len(),
-        Some(Kind::Or) => ones != 0,
-        Some(Kind::Nor) => ones == 0,
-        Some(Kind::Xor) => ones % 2 == 1,
-        Some(Kind::Xnor) => ones % 2 == 0,
-        Some(Kind::Not) => ones == 0,
-        Some(Kind::Buf) => ones != 0,
-        _ => false,
+        Some(kind) => bit_by_count(kind.family(), ones, pins.len()),
+        None => false,
+    }
+}
+
+/// What a gate of a family gives, where so many of its pins are 1.
+fn bit_by_count(family: Family, ones: usize, pins: usize) -> bool
+    ensures { result ≡ bit_by_count family ones pins }
+{
+    match family {
+        Family::AndLike { pins: bit, target } => {
+            let each = ones == if bit { pins } else { 0 };
+            each == target
+        }
+        Family::Parity { inverted } => (ones % 2 == 1) != inverted,
     }
 }
 

@@ -1,19 +1,29 @@
 -- How many bits of a word are set.
-use Rattle.std.proofs.Common.{ℕ, zero, suc, ◌≡◌, ◌+◌, ◌*◌, ◌/◌, ◌%◌, ◌<◌, ◌^◌, cond, eqb, arith, refl, bit_and, sym, ap, ◌∙◌}
+use Rattle.std.proofs.Common.{ℕ, zero, suc, ◌≡◌, ◌+◌, ◌*◌, ◌/◌, ◌%◌, ◌<◌, ◌^◌, cond, eqb, arith, inl, inr, refl, sym, ap, ◌∙◌}
 use Rattle.std.specs.Int.{bit_at}
 use Rattle.std.specs.Int.RustNames.{count_ones}
 use Rattle.std.specs.List.{count_by, range_with_len}
-use Rattle.std.proofs.lemmas.Nat.{ones_cat, and_mask}
-use Rattle.std.proofs.lemmas.Nat.Bits.{bit_at_lowest, bit_at-suc}
+use Rattle.std.proofs.lemmas.Bool.{cases_eq, eqb-true, eq-eqb}
+use Rattle.std.proofs.lemmas.Nat.{ones_cat}
+use Rattle.std.proofs.lemmas.Nat.Bits.{bit_at_lowest, bit_at-lt, bit_at-suc, same_from_bits}
 use Rattle.std.proofs.lemmas.List.Sums.{sum_by-cons}
 use Rattle.unroll.specs.Bits.{is_set}
 use Rattle.known_planes.specs.Counts.{bits_in}
 use Rattle.known_planes.proofs.Sums.{sum-agree, sum-moved}
 
--- the test of a bit
-pub tested : (word i : ℕ) → eqb (bit_and (word / 2 ^ i) 1) 1 ≡ is_set word i
+-- words with the same bits are equal
+pub same-words : (a b : ℕ) → ((i : ℕ) → is_set a i ≡ is_set b i) → a ≡ b
 unfolding is_set
-tested word i = ap (λ n. eqb n 1) (and_mask (word / 2 ^ i) 1)
+same-words a b same = same_from_bits a b (λ i. one (bit_at a i) (bit_at b i) (bit_at-lt a i) (bit_at-lt b i) (same i)) where
+  one : (x y : ℕ) → x < 2 → y < 2 → eqb x 1 ≡ eqb y 1 → x ≡ y
+  one x y few_x few_y e =
+      elim (cases_eq x 1) [
+        | inl h ↦ h ∙ sym (eqb-true y 1 (sym e ∙ eq-eqb x 1 h))
+        | inr h ↦ elim (cases_eq y 1) [
+          | inl k ↦ absurd (h (eqb-true x 1 (e ∙ eq-eqb y 1 k)))
+          | inr k ↦ omega (arith, few_x, few_y, h, k)
+        ]
+      ]
 
 digit : (n : ℕ) → n < 2 → count_ones n ≡ cond (eqb n 1) 1 0
 unfolding count_ones

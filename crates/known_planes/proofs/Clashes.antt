@@ -9,14 +9,17 @@ use Rattle.std.proofs.Math.Nat.{mul-le-mul_right}
 use Rattle.sr_model.specs.declared.cells.Sig.{Sig}
 use Rattle.sr_model.specs.declared.cells.Cell.{Cell}
 use Rattle.sr_model.specs.Order.{CellLe}
-use Rattle.sr_model.specs.Closure.{HasBoth, IsLeastClash}
+use Rattle.sr_model.specs.Closure.{HasBoth, IsLeastClash, lit}
 use Rattle.unroll.specs.declared.words.PinWord.{PinWord}
-use Rattle.unroll.specs.Bits.{is_set, word_for}
+use Rattle.unroll.specs.Bits.{is_set, word_for, no_words}
 use Rattle.unroll.specs.Problem.{Unrolling, signals_in, chunks_in, block_at, block_of, bit_of}
-use Rattle.unroll.proofs.lemmas.Words.{is_set_or, is_set_and, is_set_zero}
-use Rattle.unroll.proofs.lemmas.Blocks.{block-chunk, block-within, cycle-chunk}
-use Rattle.known_planes.specs.Planes.{PlaneSet, no_bits, words_at, pair_in, lits, IsOf}
+use Rattle.unroll.proofs.lemmas.Words.{is_set_or, is_set_zero}
+use Rattle.unroll.proofs.lemmas.Laws.{cycle-chunk}
+use Rattle.known_planes.specs.Planes.{PlaneSet, words_at, pair_in, lits, IsOf}
 use Rattle.known_planes.specs.Clash.{has_both_at}
+use Rattle.known_planes.proofs.Members.{in-block}
+use Rattle.known_planes.proofs.PlanesLaws.{literals_are_of_cells}
+use Rattle.known_planes.proofs.SignalCounts.{bit-has}
 
 -- the bits of a word are those that one of the first signals has in both words of the chunk
 abbrev pub HasEach : PlaneSet → ℕ → ℕ → ℕ → Type 0
@@ -25,27 +28,21 @@ HasEach planes chunk signals both = (i : ℕ) → IsTrue (is_set both i) ↔ ((s
 pub each-none : (planes : PlaneSet) (chunk : ℕ) → HasEach planes chunk 0 0
 each-none planes chunk i = ((λ set. absurd (true≢false (sym set ∙ is_set_zero i))), (λ found. absurd (omega (arith, found.1))))
 
-pub both-bit : (planes : PlaneSet) (s chunk : ℕ) (w : PinWord) → w ≡ pair_in planes s chunk → (i : ℕ) → is_set (bit_and w.zero w.one) i ≡ has_both_at planes s chunk i
-both-bit planes s chunk w is i = is_set_and w.zero w.one i ∙ ap (λ (x : PinWord). is_set x.zero i && is_set x.one i) is
-
-pub each-more : (planes : PlaneSet) (chunk signals both : ℕ) (w : PinWord) → w ≡ pair_in planes signals chunk → HasEach planes chunk signals both
-    → HasEach planes chunk (signals + 1) (bit_or both (bit_and w.zero w.one))
-each-more planes chunk signals both w is before i = (found, set)
+pub each-more : (planes : PlaneSet) (chunk signals both more : ℕ) (w : PinWord) → w ≡ pair_in planes signals chunk → ((i : ℕ) → is_set more i ≡ (is_set w.zero i && is_set w.one i)) → HasEach planes chunk signals both
+    → HasEach planes chunk (signals + 1) (bit_or both more)
+each-more planes chunk signals both more w is more_is before i = (found, set)
   where
-    its : is_set (bit_and w.zero w.one) i ≡ has_both_at planes signals chunk i
-    its = both-bit planes signals chunk w is i
+    joined : is_set (bit_or both more) i ≡ (is_set both i || has_both_at planes signals chunk i)
+    joined = is_set_or both more i ∙ ap (λ t. is_set both i || t) (more_is i ∙ ap (λ (x : PinWord). is_set x.zero i && is_set x.one i) is)
 
-    joined : is_set (bit_or both (bit_and w.zero w.one)) i ≡ (is_set both i || has_both_at planes signals chunk i)
-    joined = is_set_or both (bit_and w.zero w.one) i ∙ ap (λ t. is_set both i || t) its
-
-    found : IsTrue (is_set (bit_or both (bit_and w.zero w.one)) i) → (s : ℕ) × (s < signals + 1) × IsTrue (has_both_at planes s chunk i)
+    found : IsTrue (is_set (bit_or both more) i) → (s : ℕ) × (s < signals + 1) × IsTrue (has_both_at planes s chunk i)
     found h =
         elim (or_cases (is_set both i) (has_both_at planes signals chunk i) (sym joined ∙ h)) [
           | inl old ↦ let one : (s : ℕ) × (s < signals) × IsTrue (has_both_at planes s chunk i) = (before i).0 old in (one.0, omega (arith, one.1), one.2)
           | inr new ↦ (signals, omega arith, new)
         ]
 
-    set : (s : ℕ) × (s < signals + 1) × IsTrue (has_both_at planes s chunk i) → IsTrue (is_set (bit_or both (bit_and w.zero w.one)) i)
+    set : (s : ℕ) × (s < signals + 1) × IsTrue (has_both_at planes s chunk i) → IsTrue (is_set (bit_or both more) i)
     set one =
         joined ∙ elim (cases_lt one.0 signals) [
           | inl below ↦ or_left (is_set both i) (has_both_at planes signals chunk i) ((before i).1 (one.0, below, one.2))
@@ -53,15 +50,6 @@ each-more planes chunk signals both w is before i = (found, set)
               let same : one.0 ≡ signals = omega (arith, one.1, last) in
               or_right (is_set both i) (has_both_at planes signals chunk i) (subst (λ s. IsTrue (has_both_at planes s chunk i)) same one.2)
         ]
-
--- none of the first signals has the bit in both words, and a further one has not
-pub first-more : (planes : PlaneSet) (chunk i s : ℕ) → ((t : ℕ) → t < s → has_both_at planes t chunk i ≡ false) → has_both_at planes s chunk i ≡ false
-    → (t : ℕ) → t < s + 1 → has_both_at planes t chunk i ≡ false
-first-more planes chunk i s before none t h =
-    elim (cases_lt t s) [
-      | inl below ↦ before t below
-      | inr last ↦ subst (λ n. has_both_at planes n chunk i ≡ false) (omega (arith, h, last)) none
-    ]
 
 -- no cell before the chunk has both literals
 abbrev pub HasNoneBefore : PlaneSet → ℕ → Type 0
@@ -92,49 +80,25 @@ lowest-bit n some small =
     positive n some = elim (cases_eq n 0) [ inl z ↦ absurd (some z) | inr z ↦ omega (arith, z) ]
 
 module _ (u : Unrolling) (planes : PlaneSet) (of : IsOf u planes) where
-  pub in-block : (s chunk : ℕ) → pair_in planes s chunk ≡ words_at planes (block_at u (record { 0 = s }) chunk)
-  in-block s chunk = ap (λ n. get_or planes.words (s * n + chunk) no_bits) of.chunks
-
   -- a cell with both literals is one, and its bit is set in both words
   pub both-there : (d : Cell) → HasBoth (lits u planes) d
       → (d.cycle < u.cycles) × (d.sig.0 < signals_in u) × IsTrue (has_both_at planes d.sig.0 (d.cycle / 64) (d.cycle % 64))
   both-there d both =
-      let zero : (nat_lt d.cycle u.cycles ≡ true) × (is_set (words_at planes (block_of u d)).zero (bit_of d) ≡ true) = and_parts (nat_lt d.cycle u.cycles) (is_set (words_at planes (block_of u d)).zero (bit_of d)) both.0 in
-      let one : (nat_lt d.cycle u.cycles ≡ true) × (is_set (words_at planes (block_of u d)).one (bit_of d) ≡ true) = and_parts (nat_lt d.cycle u.cycles) (is_set (words_at planes (block_of u d)).one (bit_of d)) both.1 in (
-        ltb-true d.cycle u.cycles zero.0,
-        known-signal zero.1,
-        and_from (is_set (pair_in planes d.sig.0 (d.cycle / 64)).zero (bit_of d)) (is_set (pair_in planes d.sig.0 (d.cycle / 64)).one (bit_of d))
-            (ap (λ (w : PinWord). is_set w.zero (bit_of d)) (in-block d.sig.0 (d.cycle / 64)) ∙ zero.1)
-            (ap (λ (w : PinWord). is_set w.one (bit_of d)) (in-block d.sig.0 (d.cycle / 64)) ∙ one.1),
+      let place : (d.sig.0 < signals_in u) × (d.cycle < u.cycles) = literals_are_of_cells u planes (lit d false) of both.0 in
+      let words : pair_in planes d.sig.0 (d.cycle / 64) ≡ words_at planes (block_of u d) = in-block u planes of d.sig.0 (d.cycle / 64) in (
+        place.1,
+        place.0,
+        ap (λ (w : PinWord). is_set w.zero (bit_of d) && is_set w.one (bit_of d)) words
+            ∙ and_from (is_set (words_at planes (block_of u d)).zero (bit_of d)) (is_set (words_at planes (block_of u d)).one (bit_of d))
+            (and_parts (nat_lt d.cycle u.cycles) (is_set (words_at planes (block_of u d)).zero (bit_of d)) both.0).1
+            (and_parts (nat_lt d.cycle u.cycles) (is_set (words_at planes (block_of u d)).one (bit_of d)) both.1).1,
       )
-    where
-      known-signal : is_set (words_at planes (block_of u d)).zero (bit_of d) ≡ true → d.sig.0 < signals_in u
-      known-signal set =
-          elim (cases_lt d.sig.0 (signals_in u)) [
-            | inl h ↦ h
-            | inr past ↦
-                let further : signals_in u * chunks_in u ≤ d.sig.0 * chunks_in u = mul-le-mul_right (chunks_in u) past in
-                let none : words_at planes (block_of u d) ≡ no_bits = get_or-eq_default planes.words no_bits (subst (λ n. n ≤ (block_of u d).0) (sym of.blocks) (omega (arith, further))) in
-                absurd (true≢false (sym set ∙ ap (λ (w : PinWord). is_set w.zero (bit_of d)) none ∙ is_set_zero (bit_of d)))
-          ]
 
   -- a bit that is set in both words is that of a cell with both literals
   pub both-here : (s : Sig) (chunk i : ℕ) → s.0 < signals_in u → chunk < chunks_in u → i < 64 → IsTrue (has_both_at planes s.0 chunk i) → HasBoth (lits u planes) (record { cycle = 64 * chunk + i; sig = s })
   both-here s chunk i h k few both =
-      let c : Cell = record { cycle = 64 * chunk + i; sig = s } in
       let parts : (is_set (pair_in planes s.0 chunk).zero i ≡ true) × (is_set (pair_in planes s.0 chunk).one i ≡ true) = and_parts (is_set (pair_in planes s.0 chunk).zero i) (is_set (pair_in planes s.0 chunk).one i) both in
-      let zero : is_set (words_at planes (block_at u s chunk)).zero i ≡ true = ap (λ (w : PinWord). is_set w.zero i) (sym (in-block s.0 chunk)) ∙ parts.0 in
-      let one : is_set (words_at planes (block_at u s chunk)).one i ≡ true = ap (λ (w : PinWord). is_set w.one i) (sym (in-block s.0 chunk)) ∙ parts.1 in
-      let cycle : nat_lt (64 * chunk + i) u.cycles ≡ true = subst (λ n. nat_lt (64 * n + i) u.cycles ≡ true) (block-chunk u s chunk k) (of.no_later (block_at u s chunk) (block-within u s chunk k h) false i few zero) in
-      (and_from (nat_lt (64 * chunk + i) u.cycles) (has-bit false) cycle (there false zero), and_from (nat_lt (64 * chunk + i) u.cycles) (has-bit true) cycle (there true one))
-    where
-      has-bit : Bool → Bool
-      has-bit bit = is_set (word_for bit (words_at planes (block_at u s ((64 * chunk + i) / 64)))) ((64 * chunk + i) % 64)
-
-      there : (bit : Bool) → is_set (word_for bit (words_at planes (block_at u s chunk))) i ≡ true → has-bit bit ≡ true
-      there bit set =
-          ap (λ n. is_set (word_for bit (words_at planes (block_at u s n))) ((64 * chunk + i) % 64)) (omega (arith, few))
-          ∙ ap (λ n. is_set (word_for bit (words_at planes (block_at u s chunk))) n) (omega (arith, few)) ∙ set
+      (sym (bit-has u planes of s h false chunk i k few) ∙ parts.0, sym (bit-has u planes of s h true chunk i k few) ∙ parts.1)
 
   -- the first one by chunk, bit and signal is the least cell
   pub least-clash : (chunk i : ℕ) (s : Sig) (both : ℕ) → chunk < chunks_in u → s.0 < planes.signals → i < 64 → IsTrue (has_both_at planes s.0 chunk i)

@@ -10,29 +10,29 @@ use Rattle.sr_model.specs.declared.cells.Sig.{Sig}
 use Rattle.sr_model.specs.Netlist.{cell_at}
 use Rattle.sr_model.specs.Closure.{lit}
 use Rattle.unroll.specs.declared.words.PinWord.{PinWord}
-use Rattle.unroll.specs.Bits.{is_set}
+use Rattle.unroll.specs.Bits.{is_set, no_words}
 use Rattle.unroll.specs.Problem.{signals_in}
 use Rattle.unroll.proofs.lemmas.Tasks.{chunk-listed}
-use Rattle.known_planes.specs.Planes.{PlaneSet, has, no_bits}
+use Rattle.known_planes.specs.Planes.{PlaneSet, has}
 use Rattle.known_planes.specs.Counts.{bits_in, bits_of_both, literal_bits_at, literals_of, cells_where}
 use Rattle.known_planes.specs.Laws.{LiteralsByBlock, MoreLiteralsCountMore, LiteralsAreBits}
 use Rattle.known_planes.proofs.Sums.{sum-agree, sum-agree_on, sum-mapped, sum-places, sum-le, sum-lt}
-use Rattle.known_planes.proofs.RowCounts.{literal-row, rows-sum}
+use Rattle.known_planes.proofs.SignalCounts.{literal-signal, parts-sum}
 use Rattle.known_planes.proofs.PlanesLaws.{literals_are_of_cells}
 
 pub literals_by_block : LiteralsByBlock
 literals_by_block u planes of =
     sym (sum-agree_on (λ (s : Sig). s.0 < signals_in u) (λ s. sum_by (literal_bits_at planes s.0) (range_with_len 0 planes.chunks)) (literals_of u planes) (signals_below (signals_in u))
-    (signals_within (signals_in u)) (λ s h. literal-row u planes of s h))
+    (signals_within (signals_in u)) (λ s h. literal-signal u planes of s h))
     ∙ sum-mapped (λ (s : Sig). sum_by (literal_bits_at planes s.0) (range_with_len 0 planes.chunks)) (λ k. record { 0 = k }) (range_with_len 0 (signals_in u))
     ∙ sum-agree (λ k. sum_by (literal_bits_at planes k) (range_with_len 0 planes.chunks)) (λ k. sum_by (λ c. bits_at (planes.chunks * k + c)) (range_with_len 0 planes.chunks)) 0 (signals_in u)
     (λ k low high. sum-agree (literal_bits_at planes k) (λ c. bits_at (planes.chunks * k + c)) 0 planes.chunks (λ c l h. ap (λ n. bits_at (n + c)) (times-swap k planes.chunks)))
-    ∙ rows-sum planes.chunks bits_at (signals_in u)
+    ∙ parts-sum planes.chunks bits_at (signals_in u)
     ∙ ap (λ n. sum_by bits_at (range_with_len 0 n)) whole
-    ∙ sym (sum-places bits_of_both no_bits planes.words)
+    ∙ sym (sum-places bits_of_both no_words planes.words)
   where
     bits_at : ℕ → ℕ
-    bits_at b = bits_of_both (get_or planes.words b no_bits)
+    bits_at b = bits_of_both (get_or planes.words b no_words)
 
     times-swap : (a b : ℕ) → a * b ≡ b * a
     times-swap a b = grind arith

@@ -1,5 +1,5 @@
 -- The literals of a row of a dump, chunk after chunk, and of a dump, row after row.
-use Rattle.std.proofs.Common.{ℕ, ◌≡◌, ◌+◌, ◌*◌, ◌/◌, ◌<◌, ◌≤◌, ◌⊎◌, ◌&&◌, ◌||◌, Bool, true, false, eqb, ltb, min, List, length, get_or, take, map, arith, inl, inr, sym, ap, subst, refl, Some, slice_get, ◌∙◌}
+use Rattle.std.proofs.Common.{ℕ, ◌≡◌, ◌+◌, ◌*◌, ◌/◌, ◌<◌, ◌≤◌, ◌&&◌, ◌||◌, Bool, true, false, eqb, ltb, min, List, length, get_or, take, map, arith, inl, inr, sym, ap, subst, refl, Some, slice_get, ◌∙◌}
 use Rattle.std.specs.List.{slice_range}
 use Rattle.std.specs.Prelude.{option_map, unwrap_or}
 use Rattle.std.proofs.lemmas.Bool.{cases_eq, cases_lt, cases_order, lt-ltb, le-ltb, eq-eqb, ne_eqb, ltb-false, and_right}
@@ -11,36 +11,13 @@ use Rattle.sr_model.specs.Dump.{Row, dump_has, is_bit}
 use Rattle.dump_reader.specs.declared.dump.Tri.{Tri}
 use Rattle.dump_reader.specs.Recording.{tri_bit}
 use Rattle.unroll.specs.declared.words.PinWord.{PinWord}
-use Rattle.unroll.specs.Bits.{is_set, word_for}
-use Rattle.unroll.specs.Problem.{Unrolling, signals_in, chunks_in, block_at, block_of, chunk_at, bit_of, HasNoLaterBit}
-use Rattle.unroll.proofs.lemmas.Words.{is_set_or}
-use Rattle.unroll.proofs.lemmas.Blocks.{block-chunk, block-within, cycle-chunk}
-use Rattle.known_planes.specs.Planes.{PlaneSet, words_at, with_words, has, joined, IsOf}
+use Rattle.unroll.specs.Bits.{is_set, union_of, word_for}
+use Rattle.unroll.specs.Problem.{Unrolling, signals_in, chunks_in, block_at, block_of, bit_of}
+use Rattle.unroll.proofs.lemmas.Words.{union_bits}
+use Rattle.unroll.proofs.lemmas.Laws.{cycle-chunk}
+use Rattle.known_planes.specs.Planes.{PlaneSet, words_at, with_words, has, IsOf}
 use Rattle.known_planes.proofs.DumpWords.{no-bit-past, chunk-cell}
 use Rattle.known_planes.proofs.Members.{has-there, has-elsewhere}
-
--- joined words
-pub joined-bit : (a b : PinWord) (bit : Bool) (i : ℕ) → is_set (word_for bit (joined a b)) i ≡ (is_set (word_for bit a) i || is_set (word_for bit b) i)
-joined-bit a b true i = is_set_or a.one b.one i
-joined-bit a b false i = is_set_or a.zero b.zero i
-
-or_false : (a b : Bool) → (a || b) ≡ true → (a ≡ true) ⊎ (b ≡ true)
-or_false true b h = inl refl
-or_false false b h = inr h
-
-pub joined-none : (u : Unrolling) (planes : PlaneSet) (s : Sig) (chunk : ℕ) (old words : PinWord) → IsOf u planes → s.0 < signals_in u → chunk < chunks_in u
-    → old ≡ words_at planes (block_at u s chunk) → HasNoLaterBit u.cycles chunk words → HasNoLaterBit u.cycles chunk (joined old words)
-joined-none u planes s chunk old words of h k is none bit i few set =
-    elim (or_false (is_set (word_for bit old) i) (is_set (word_for bit words) i) (sym (joined-bit old words bit i) ∙ set)) [
-      | inl first ↦ before bit i few first
-      | inr second ↦ none bit i few second
-    ]
-  where
-    at : HasNoLaterBit u.cycles (chunk_at u (block_at u s chunk)) (words_at planes (block_at u s chunk))
-    at = of.no_later (block_at u s chunk) (block-within u s chunk k h)
-
-    before : HasNoLaterBit u.cycles chunk old
-    before = subst (HasNoLaterBit u.cycles chunk) (sym is) (subst (λ n. HasNoLaterBit u.cycles n (words_at planes (block_at u s chunk))) (block-chunk u s chunk k) at)
 
 -- the planes have the old literals and those of a row's first chunks
 abbrev pub HasChunks : Unrolling → PlaneSet → Sig → List Tri → ℕ → PlaneSet → Type 0
@@ -65,7 +42,7 @@ module _ (u : Unrolling) (old planes : PlaneSet) (s : Sig) (chunk : ℕ) (cells 
     (says : (bit : Bool) (i : ℕ) → is_set (word_for bit words) i ≡ is_bit (slice_get (map tri_bit (slice_range cells start end)) i) bit)
     (before : HasChunks u old s cells chunk planes) where
   abbrev new : PlaneSet
-  new = with_words planes (block_at u s chunk) (joined (words_at planes (block_at u s chunk)) words)
+  new = with_words planes (block_at u s chunk) (union_of (words_at planes (block_at u s chunk)) words)
 
   abbrev cell-has : Lit → Bool
   cell-has l = is_bit (slice_get (map tri_bit cells) l.cell.cycle) l.bit
@@ -85,8 +62,8 @@ module _ (u : Unrolling) (old planes : PlaneSet) (s : Sig) (chunk : ℕ) (cells 
   here : (l : Lit) → s.0 ≡ l.cell.sig.0 → l.cell.cycle / 64 ≡ chunk → has u new l ≡ (has u planes l || cell-has l)
   here l sig same =
       let one : block_at u s chunk ≡ block_of u l.cell = ap (λ n. record { 0 = n * chunks_in u + chunk }) sig ∙ ap (λ n. record { 0 = l.cell.sig.0 * chunks_in u + n }) (sym same) in
-      has-there u planes s chunk (joined (words_at planes (block_at u s chunk)) words) of h k l sig (sym same)
-      ∙ ap (λ t. early l && t) (joined-bit (words_at planes (block_at u s chunk)) words l.bit (bit_of l.cell))
+      has-there u planes s chunk (union_of (words_at planes (block_at u s chunk)) words) of h k l sig (sym same)
+      ∙ ap (λ t. early l && t) (union_bits (words_at planes (block_at u s chunk)) words l.bit (bit_of l.cell))
       ∙ distribute (early l) (is_set (word_for l.bit (words_at planes (block_at u s chunk))) (bit_of l.cell)) (is_set (word_for l.bit words) (bit_of l.cell))
       ∙ ap (λ b. (early l && is_set (word_for l.bit (words_at planes b)) (bit_of l.cell)) || (early l && is_set (word_for l.bit words) (bit_of l.cell))) one
       ∙ ap (λ t. has u planes l || (early l && t)) (in-chunk l same)
@@ -105,16 +82,16 @@ module _ (u : Unrolling) (old planes : PlaneSet) (s : Sig) (chunk : ℕ) (cells 
                   ∙ sym (ap (λ t. has u old l || (t && ltb (l.cell.cycle / 64) (chunk + 1) && cell-has l)) (eq-eqb s.0 l.cell.sig.0 sig)
                   ∙ ap (λ t. has u old l || (t && cell-has l)) (lt-ltb (l.cell.cycle / 64) (chunk + 1) (omega (arith, same))))
               | inr (inl below) ↦
-                  has-elsewhere u planes s chunk (joined (words_at planes (block_at u s chunk)) words) k l (λ a b. omega (arith, b, below)) ∙ before l
+                  has-elsewhere u planes s chunk (union_of (words_at planes (block_at u s chunk)) words) k l (λ a b. omega (arith, b, below)) ∙ before l
                   ∙ ap (λ t. has u old l || (eqb s.0 l.cell.sig.0 && t && cell-has l))
                   (lt-ltb (l.cell.cycle / 64) chunk below ∙ sym (lt-ltb (l.cell.cycle / 64) (chunk + 1) (omega (arith, below))))
               | inr (inr above) ↦
-                  has-elsewhere u planes s chunk (joined (words_at planes (block_at u s chunk)) words) k l (λ a b. omega (arith, b, above)) ∙ before l
+                  has-elsewhere u planes s chunk (union_of (words_at planes (block_at u s chunk)) words) k l (λ a b. omega (arith, b, above)) ∙ before l
                   ∙ ap (λ t. has u old l || (eqb s.0 l.cell.sig.0 && t && cell-has l))
                   (le-ltb (l.cell.cycle / 64) chunk (omega (arith, above)) ∙ sym (le-ltb (l.cell.cycle / 64) (chunk + 1) (omega (arith, above))))
             ]
         | inr other ↦
-            has-elsewhere u planes s chunk (joined (words_at planes (block_at u s chunk)) words) k l (λ a b. other a) ∙ before l
+            has-elsewhere u planes s chunk (union_of (words_at planes (block_at u s chunk)) words) k l (λ a b. other a) ∙ before l
             ∙ ap (λ t. has u old l || (t && ltb (l.cell.cycle / 64) chunk && cell-has l)) (ne_eqb s.0 l.cell.sig.0 other)
             ∙ sym (ap (λ t. has u old l || (t && ltb (l.cell.cycle / 64) (chunk + 1) && cell-has l)) (ne_eqb s.0 l.cell.sig.0 other))
       ]

@@ -13,9 +13,8 @@ use Rattle.dump_reader.specs.declared.dump.Tri.{Tri}
 use Rattle.dump_reader.specs.declared.dump.Tri.TheVariants.{Zero, One, X}
 use Rattle.dump_reader.specs.Recording.{tri_bit}
 use Rattle.unroll.specs.declared.words.PinWord.{PinWord}
-use Rattle.unroll.specs.Bits.{is_set, word_for}
+use Rattle.unroll.specs.Bits.{is_set, word_for, no_words}
 use Rattle.unroll.proofs.lemmas.Words.{is_set_or, is_set_zero}
-use Rattle.known_planes.specs.Planes.{no_bits}
 
 -- the words have the bits of the first k cells
 abbrev pub HasFirst : List Tri → ℕ → PinWord → Type 0
@@ -101,7 +100,7 @@ module _ (cells : List Tri) (k : ℕ) (w : PinWord) (few : length cells ≤ 64) 
   x-more is true i = leave-bit true (λ i same. cell-bit X is true i same) i
 
 -- no cell
-pub has-none : (cells : List Tri) → HasFirst cells 0 no_bits
+pub has-none : (cells : List Tri) → HasFirst cells 0 no_words
 has-none cells true i = is_set_zero i ∙ sym (ap (λ t. t && is_bit (slice_get (map tri_bit cells) i) true) (le-ltb i 0 (omega arith)))
 has-none cells false i = is_set_zero i ∙ sym (ap (λ t. t && is_bit (slice_get (map tri_bit cells) i) false) (le-ltb i 0 (omega arith)))
 

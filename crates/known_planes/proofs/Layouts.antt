@@ -7,8 +7,9 @@ use Rattle.std.proofs.lemmas.List.FromFn.{length-map-range_with_len, get_or-map-
 use Rattle.std.proofs.lemmas.Nat.{div-mul-add, mod-mul-add, mul-add-lt, same_from_place, div_below}
 use Rattle.std.proofs.Math.Nat.{mod-add-div'}
 use Rattle.unroll.specs.declared.words.PinWord.{PinWord}
-use Rattle.known_planes.specs.Planes.{PlaneSet, no_bits, pair_in}
+use Rattle.known_planes.specs.Planes.{PlaneSet, pair_in}
 use Rattle.known_planes.specs.Layout.{place_of, pair_at, pair_of, words_from, IsLaidOut}
+use Rattle.unroll.specs.Bits.{no_words}
 
 times-swap : (a b : ℕ) → a * b ≡ b * a
 times-swap a b = grind arith
@@ -27,12 +28,12 @@ module _ (signals chunks : ℕ) (flat : List ℕ) where
   pub words-size : length (words_from signals chunks flat) ≡ signals * chunks
   words-size = length-map-range_with_len (pair_of signals chunks flat) 0 (signals * chunks)
 
-  pub words-by-number : (b : ℕ) → b < signals * chunks → get_or (words_from signals chunks flat) b no_bits ≡ pair_of signals chunks flat b
-  words-by-number b h = get_or-map-range_with_len (pair_of signals chunks flat) 0 (signals * chunks) b b no_bits h (omega arith)
+  pub words-by-number : (b : ℕ) → b < signals * chunks → get_or (words_from signals chunks flat) b no_words ≡ pair_of signals chunks flat b
+  words-by-number b h = get_or-map-range_with_len (pair_of signals chunks flat) 0 (signals * chunks) b b no_words h (omega arith)
 
-  pub words-by-place : (s chunk : ℕ) → s < signals → chunk < chunks → get_or (words_from signals chunks flat) (s * chunks + chunk) no_bits ≡ pair_at flat (place_of signals s chunk)
+  pub words-by-place : (s chunk : ℕ) → s < signals → chunk < chunks → get_or (words_from signals chunks flat) (s * chunks + chunk) no_words ≡ pair_at flat (place_of signals s chunk)
   words-by-place s chunk h k =
-      let by : get_or (words_from signals chunks flat) (s * chunks + chunk) no_bits ≡ pair_of signals chunks flat (s * chunks + chunk) = words-by-number (s * chunks + chunk) (number-within signals chunks s chunk h k) in
+      let by : get_or (words_from signals chunks flat) (s * chunks + chunk) no_words ≡ pair_of signals chunks flat (s * chunks + chunk) = words-by-number (s * chunks + chunk) (number-within signals chunks s chunk h k) in
       by ∙ ap (λ n. pair_at flat (place_of signals n ((s * chunks + chunk) % chunks))) (div-mul-add s chunks chunk k)
       ∙ ap (λ n. pair_at flat (place_of signals s n)) (mod-mul-add s chunks chunk k)
 
@@ -105,25 +106,25 @@ module _ (signals chunks : ℕ) (flat : List ℕ) (laid : IsLaidOut signals chun
   pub words-written : words_from signals chunks (set (set flat (place_of signals s chunk) z) (place_of signals s chunk + 1) o)
       ≡ set (words_from signals chunks flat) (s * chunks + chunk) (record { zero = z; one = o })
   words-written =
-      ext_get_or no_bits (words_from signals chunks new) (set (words_from signals chunks flat) (s * chunks + chunk) w)
+      ext_get_or no_words (words_from signals chunks new) (set (words_from signals chunks flat) (s * chunks + chunk) w)
       (words-size signals chunks new ∙ sym (length-set (words_from signals chunks flat) (s * chunks + chunk) w ∙ words-size signals chunks flat))
       (λ b below. each b (subst (λ n. b < n) (words-size signals chunks new) below))
     where
-      at-block : get_or (words_from signals chunks new) (s * chunks + chunk) no_bits ≡ get_or (set (words_from signals chunks flat) (s * chunks + chunk) w) (s * chunks + chunk) no_bits
+      at-block : get_or (words_from signals chunks new) (s * chunks + chunk) no_words ≡ get_or (set (words_from signals chunks flat) (s * chunks + chunk) w) (s * chunks + chunk) no_words
       at-block =
           words-by-place signals chunks new s chunk h k ∙ read-there
-          ∙ sym (get_or-set_same (words_from signals chunks flat) (s * chunks + chunk) w no_bits
+          ∙ sym (get_or-set_same (words_from signals chunks flat) (s * chunks + chunk) w no_words
           (subst (λ n. s * chunks + chunk < n) (sym (words-size signals chunks flat)) (number-within signals chunks s chunk h k)))
 
-      each : (b : ℕ) → b < signals * chunks → get_or (words_from signals chunks new) b no_bits ≡ get_or (set (words_from signals chunks flat) (s * chunks + chunk) w) b no_bits
+      each : (b : ℕ) → b < signals * chunks → get_or (words_from signals chunks new) b no_words ≡ get_or (set (words_from signals chunks flat) (s * chunks + chunk) w) b no_words
       each b below =
           elim (cases_eq b (s * chunks + chunk)) [
-            | inl same ↦ subst (λ n. get_or (words_from signals chunks new) n no_bits ≡ get_or (set (words_from signals chunks flat) (s * chunks + chunk) w) n no_bits) (sym same) at-block
+            | inl same ↦ subst (λ n. get_or (words_from signals chunks new) n no_words ≡ get_or (set (words_from signals chunks flat) (s * chunks + chunk) w) n no_words) (sym same) at-block
             | inr other ↦
                 words-by-number signals chunks new b below
                 ∙ read-elsewhere (b % chunks * signals + b / chunks) (λ e. other (one-block b below e))
                 ∙ sym (words-by-number signals chunks flat b below)
-                ∙ sym (get_or-set_other (words_from signals chunks flat) (s * chunks + chunk) b w no_bits other)
+                ∙ sym (get_or-set_other (words_from signals chunks flat) (s * chunks + chunk) b w no_words other)
           ]
 
 abbrev with-pair : PlaneSet → ℕ → PinWord → PlaneSet

@@ -4,8 +4,9 @@ mod BitCounts
 mod Sums
 mod DumpWords
 mod DumpRows
-mod Clashes
-mod RowCounts
+mod SignalCounts
 mod PlanesLaws
+mod Clashes
+mod NewBits
 mod CountLaws
 pub mod lemmas

@@ -1,5 +1,5 @@
 -- Planes of a problem, and the literals that they have.
-use Rattle.std.proofs.Common.{ℕ, ◌≡◌, ◌+◌, ◌*◌, ◌/◌, ◌%◌, ◌<◌, ◌≤◌, ◌&&◌, Bool, true, false, List, length, get_or, set, length-set, replicate, arith, inl, inr, sym, ap, subst, refl, bit_and, ◌∙◌}
+use Rattle.std.proofs.Common.{ℕ, ◌≡◌, ◌+◌, ◌*◌, ◌/◌, ◌%◌, ◌<◌, ◌≤◌, ◌&&◌, Bool, true, false, List, length, get_or, set, length-set, replicate, arith, inl, inr, sym, ap, subst, refl, ◌∙◌}
 use Rattle.std.specs.Prelude.{nat_lt}
 use Rattle.std.proofs.lemmas.Bool.{cases_eq, cases_lt, le-ltb, and_parts}
 use Rattle.std.proofs.lemmas.List.{get_or-set_same, get_or-set_other, get_or-replicate}
@@ -11,20 +11,20 @@ use Rattle.sr_model.specs.declared.cells.Sig.{Sig}
 use Rattle.sr_model.specs.declared.cells.Lit.{Lit}
 use Rattle.unroll.specs.declared.problem.Block.{Block}
 use Rattle.unroll.specs.declared.words.PinWord.{PinWord}
-use Rattle.unroll.specs.Bits.{is_set, is_cycle, word_for}
+use Rattle.unroll.specs.Bits.{is_set, is_cycle, word_for, no_words}
 use Rattle.unroll.specs.Problem.{Unrolling, signals_in, chunks_in, blocks_in, block_at, block_of, chunk_at, bit_of, HasNoLaterBit}
-use Rattle.unroll.proofs.lemmas.Words.{is_set_zero, is_set_and}
-use Rattle.unroll.proofs.lemmas.Blocks.{block-chunk, block-within, cycle-chunk}
-use Rattle.known_planes.specs.Planes.{PlaneSet, no_bits, words_at, with_words, pair_in, has, IsOf}
+use Rattle.unroll.proofs.lemmas.Words.{is_set_zero}
+use Rattle.unroll.proofs.lemmas.Laws.{block-chunk, block-within, cycle-chunk}
+use Rattle.known_planes.specs.Planes.{PlaneSet, words_at, with_words, pair_in, has, IsOf}
 use Rattle.known_planes.specs.Layout.{words_from, pair_of, IsLaidOut}
 use Rattle.known_planes.proofs.Layouts.{over, words-size, words-by-number}
 
 -- the words of the block are there, and the others as before
 pub words-there : (planes : PlaneSet) (b : Block) (w : PinWord) → b.0 < length planes.words → words_at (with_words planes b w) b ≡ w
-words-there planes b w h = get_or-set_same planes.words b.0 w no_bits h
+words-there planes b w h = get_or-set_same planes.words b.0 w no_words h
 
 pub words-elsewhere : (planes : PlaneSet) (b a : Block) (w : PinWord) → (a.0 ≡ b.0 → ⊥) → words_at (with_words planes b w) a ≡ words_at planes a
-words-elsewhere planes b a w apart = get_or-set_other planes.words b.0 a.0 w no_bits apart
+words-elsewhere planes b a w apart = get_or-set_other planes.words b.0 a.0 w no_words apart
 
 -- the planes stay those of the problem
 pub of-with : (u : Unrolling) (planes : PlaneSet) (b : Block) (w : PinWord) → IsOf u planes → b.0 < blocks_in u → HasNoLaterBit u.cycles (chunk_at u b) w → IsOf u (with_words planes b w)
@@ -96,8 +96,8 @@ signal-within signals chunks flat planes laid view b h =
 pub word-of_block : (signals chunks : ℕ) (flat : List ℕ) (planes : PlaneSet) → over signals chunks (words_from signals chunks flat) ≡ planes
     → (b : Block) (w : PinWord) → w ≡ pair_in planes (b.0 / chunks) (b.0 % chunks) → w ≡ words_at planes b
 word-of_block signals chunks flat planes view b w is =
-    is ∙ ap (λ n. get_or planes.words (b.0 / chunks * n + b.0 % chunks) no_bits) (ap (λ (p : PlaneSet). p.chunks) (sym view))
-    ∙ ap (λ n. get_or planes.words n no_bits) (plus-swap (b.0 / chunks * chunks) (b.0 % chunks) ∙ mod-add-div' b.0 chunks)
+    is ∙ ap (λ n. get_or planes.words (b.0 / chunks * n + b.0 % chunks) no_words) (ap (λ (p : PlaneSet). p.chunks) (sym view))
+    ∙ ap (λ n. get_or planes.words n no_words) (plus-swap (b.0 / chunks * chunks) (b.0 % chunks) ∙ mod-add-div' b.0 chunks)
   where
     plus-swap : (m n : ℕ) → m + n ≡ n + m
     plus-swap m n = omega arith
@@ -111,19 +111,19 @@ module _ (u : Unrolling) (signals chunks n : ℕ) (flat : List ℕ) (signals_is 
         | inr h ↦ get_or-eq_default (replicate n 0) 0 (subst (λ m. m ≤ i) (sym (length-replicate n 0)) h)
       ]
 
-  no-words : (b : Block) → words_at (over signals chunks (words_from signals chunks flat)) b ≡ no_bits
+  no-words : (b : Block) → words_at (over signals chunks (words_from signals chunks flat)) b ≡ no_words
   no-words b =
       elim (cases_lt b.0 (signals * chunks)) [
         | inl h ↦
             words-by-number signals chunks flat b.0 h
             ∙ ap (λ z. record { zero = z; one = (pair_of signals chunks flat b.0).one }) (zero-at _) ∙ ap (λ o. record { zero = 0; one = o }) (zero-at _)
-        | inr h ↦ get_or-eq_default (words_from signals chunks flat) no_bits (subst (λ m. m ≤ b.0) (sym (words-size signals chunks flat)) h)
+        | inr h ↦ get_or-eq_default (words_from signals chunks flat) no_words (subst (λ m. m ≤ b.0) (sym (words-size signals chunks flat)) h)
       ]
 
   bit-unset : (b : Block) (bit : Bool) (i : ℕ) → is_set (word_for bit (words_at (over signals chunks (words_from signals chunks flat)) b)) i ≡ false
   bit-unset b bit i = ap (λ w. is_set (word_for bit w) i) (no-words b) ∙ unset bit
     where
-      unset : (bit : Bool) → is_set (word_for bit no_bits) i ≡ false
+      unset : (bit : Bool) → is_set (word_for bit no_words) i ≡ false
       unset true = is_set_zero i
       unset false = is_set_zero i
 
@@ -143,7 +143,11 @@ module _ (u : Unrolling) (signals chunks n : ℕ) (flat : List ℕ) (signals_is 
       and-false true = refl
       and-false false = refl
 
+-- the same words by signal and chunk
+pub in-block : (u : Unrolling) (planes : PlaneSet) → IsOf u planes → (s chunk : ℕ) → pair_in planes s chunk ≡ words_at planes (block_at u (record { 0 = s }) chunk)
+in-block u planes of s chunk = ap (λ n. get_or planes.words (s * n + chunk) no_words) of.chunks
+
 -- words without the bits of cycles that are not there
-pub masked-none : (u : Unrolling) (chunk z o valid : ℕ) → ((i : ℕ) → i < 64 → is_set valid i ≡ is_cycle u.cycles chunk i) → HasNoLaterBit u.cycles chunk (record { zero = bit_and z valid; one = bit_and o valid })
-masked-none u chunk z o valid says true i few set = sym (says i few) ∙ (and_parts (is_set o i) (is_set valid i) (sym (is_set_and o valid i) ∙ set)).1
-masked-none u chunk z o valid says false i few set = sym (says i few) ∙ (and_parts (is_set z i) (is_set valid i) (sym (is_set_and z valid i) ∙ set)).1
+pub within-none : (cycles chunk valid : ℕ) (w masked : PinWord) → ((bit : Bool) (i : ℕ) → is_set (word_for bit masked) i ≡ (is_set (word_for bit w) i && is_set valid i))
+    → ((i : ℕ) → i < 64 → is_set valid i ≡ is_cycle cycles chunk i) → HasNoLaterBit cycles chunk masked
+within-none cycles chunk valid w masked bits says bit i few set = sym (says i few) ∙ (and_parts (is_set (word_for bit w) i) (is_set valid i) (sym (bits bit i) ∙ set)).1

@@ -5,15 +5,15 @@ use Rattle.std.proofs.Math.ListN.{get_or-eq_default}
 use Rattle.std.proofs.Math.Nat.{mul-le-mul_right}
 use Rattle.std.specs.Prelude.{nat_lt}
 use Rattle.unroll.specs.declared.words.PinWord.{PinWord}
-use Rattle.unroll.specs.Bits.{is_set, word_for}
+use Rattle.unroll.specs.Bits.{is_set, word_for, no_words}
 use Rattle.unroll.specs.Problem.{signals_in, chunks_in, blocks_in, block_of, sig_at, chunk_at, bit_of}
-use Rattle.unroll.proofs.lemmas.Blocks.{block-itself, block-within, chunk-within, cycle-chunk, sig-within, some_chunk}
+use Rattle.unroll.proofs.lemmas.Laws.{block-itself, block-within, chunk-within, cycle-chunk, sig-within}
+use Rattle.unroll.proofs.lemmas.Tasks.{some_chunk}
 use Rattle.unroll.proofs.lemmas.Words.{is_set_zero}
-use Rattle.known_planes.specs.Planes.{no_bits, words_at, with_words}
+use Rattle.known_planes.specs.Planes.{words_at, with_words}
 use Rattle.known_planes.specs.Laws.{BitsAreLiterals, LiteralsAreOfCells, NewWordsAreLiterals, OtherLiteralsStay}
-use Rattle.known_planes.proofs.Clashes.{in-block}
-use Rattle.known_planes.proofs.Members.{words-there, words-elsewhere}
-use Rattle.known_planes.proofs.RowCounts.{bit-has}
+use Rattle.known_planes.proofs.Members.{in-block, words-there, words-elsewhere}
+use Rattle.known_planes.proofs.SignalCounts.{bit-has}
 
 pub bits_are_literals : BitsAreLiterals
 bits_are_literals u planes b bit i is of within few =
@@ -26,7 +26,7 @@ literals_are_of_cells u planes l of known = (signal, ltb-true l.cell.cycle u.cyc
     parts : (nat_lt l.cell.cycle u.cycles ≡ true) × (is_set (word_for l.bit (words_at planes (block_of u l.cell))) (bit_of l.cell) ≡ true)
     parts = and_parts (nat_lt l.cell.cycle u.cycles) (is_set (word_for l.bit (words_at planes (block_of u l.cell))) (bit_of l.cell)) known
 
-    none : (bit : Bool) → is_set (word_for bit no_bits) (bit_of l.cell) ≡ false
+    none : (bit : Bool) → is_set (word_for bit no_words) (bit_of l.cell) ≡ false
     none true = is_set_zero (bit_of l.cell)
     none false = is_set_zero (bit_of l.cell)
 
@@ -36,7 +36,7 @@ literals_are_of_cells u planes l of known = (signal, ltb-true l.cell.cycle u.cyc
           | inl h ↦ h
           | inr past ↦
               let further : signals_in u * chunks_in u ≤ l.cell.sig.0 * chunks_in u = mul-le-mul_right (chunks_in u) past in
-              let empty : words_at planes (block_of u l.cell) ≡ no_bits = get_or-eq_default planes.words no_bits (subst (λ n. n ≤ (block_of u l.cell).0) (sym of.blocks) (omega (arith, further))) in
+              let empty : words_at planes (block_of u l.cell) ≡ no_words = get_or-eq_default planes.words no_words (subst (λ n. n ≤ (block_of u l.cell).0) (sym of.blocks) (omega (arith, further))) in
               absurd (true≢false (sym parts.1 ∙ ap (λ (w : PinWord). is_set (word_for l.bit w) (bit_of l.cell)) empty ∙ none l.bit))
         ]
 

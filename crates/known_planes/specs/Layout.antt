@@ -1,6 +1,7 @@
 -- Where the words of the blocks lie in one flat list.
 use Rattle.std.specs.Prelude.{ℕ, ◌≡◌, ◌≤◌, ◌+◌, ◌*◌, ◌/◌, ◌%◌, List, length, map, slice_index_or}
 use Rattle.std.specs.List.{range_with_len}
+use Rattle.sr_model.specs.Limits.{chunk_count, max_blocks, max_cycles, max_signals}
 use Rattle.unroll.specs.declared.words.PinWord.{PinWord}
 
 -- the place of the zero word of a signal in a chunk: chunk after chunk, each signal after signal; its one word is behind it
@@ -23,7 +24,7 @@ words_from signals chunks flat = map (pair_of signals chunks flat) (range_with_l
 pub record IsLaidOut (signals chunks : ℕ) (flat : List ℕ) : Type 0 where
   pub size : length flat ≡ 2 * (signals * chunks) + 1
   pub last : slice_index_or flat (2 * (signals * chunks)) 1 ≡ 0
-  pub few_signals : signals ≤ 65536
+  pub few_signals : signals ≤ max_signals
   pub some_chunks : 1 ≤ chunks
-  pub few_chunks : chunks ≤ 128
-  pub few_blocks : signals * chunks ≤ 4194304
+  pub few_chunks : chunks ≤ chunk_count max_cycles
+  pub few_blocks : signals * chunks ≤ max_blocks

@@ -1,10 +1,10 @@
 -- A set of literals in two words for each block.
-use Rattle.std.specs.Prelude.{ℕ, ◌≡◌, ◌<◌, ◌+◌, ◌*◌, ◌&&◌, Bool, true, false, bit_or, List, length, nat_lt, slice_index_or, slice_set}
+use Rattle.std.specs.Prelude.{ℕ, ◌≡◌, ◌<◌, ◌+◌, ◌*◌, ◌&&◌, ◌⊎◌, Bool, true, false, IsTrue, IsFalse, List, length, nat_lt, slice_index_or, slice_set}
 use Rattle.sr_model.specs.declared.cells.Lit.{Lit}
 use Rattle.sr_model.specs.Closure.{passing}
 use Rattle.unroll.specs.declared.problem.Block.{Block}
 use Rattle.unroll.specs.declared.words.PinWord.{PinWord}
-use Rattle.unroll.specs.Bits.{is_set, word_for}
+use Rattle.unroll.specs.Bits.{is_set, word_for, no_words}
 use Rattle.unroll.specs.Problem.{Unrolling, HasNoLaterBit, signals_in, chunks_in, blocks_in, block_of, chunk_at, bit_of}
 use Rattle.known_planes.specs.declared.planes.Seen.{Seen}
 use Rattle.known_planes.specs.declared.planes.Seen.TheVariants.{Zero, One, Unknown, Both}
@@ -15,29 +15,25 @@ pub record PlaneSet : Type 0 where
   pub chunks : ℕ
   pub words : List PinWord
 
--- no literal of a block
-abbrev pub no_bits : PinWord
-no_bits = record { zero = 0; one = 0 }
-
 -- the words of a block
 abbrev pub words_at : PlaneSet → Block → PinWord
-words_at planes b = slice_index_or planes.words b.0 no_bits
+words_at planes b = slice_index_or planes.words b.0 no_words
 
 -- the words of a signal in a chunk
 abbrev pub pair_in : PlaneSet → ℕ → ℕ → PinWord
-pair_in planes s chunk = slice_index_or planes.words (s * planes.chunks + chunk) no_bits
-
--- the bits of both
-abbrev pub joined : PinWord → PinWord → PinWord
-joined a b = record { zero = bit_or a.zero b.zero; one = bit_or a.one b.one }
+pair_in planes s chunk = slice_index_or planes.words (s * planes.chunks + chunk) no_words
 
 -- the same planes, but for these words of a block
 abbrev pub with_words : PlaneSet → Block → PinWord → PlaneSet
 with_words planes b w = record { signals = planes.signals; chunks = planes.chunks; words = slice_set planes.words b.0 w }
 
+-- whether the planes have a bit of a block
+abbrev pub has_bit : PlaneSet → Block → Bool → ℕ → Bool
+has_bit planes b bit i = is_set (word_for bit (words_at planes b)) i
+
 -- whether the planes have the literal
 abbrev pub has : Unrolling → PlaneSet → Lit → Bool
-has u planes l = nat_lt l.cell.cycle u.cycles && is_set (word_for l.bit (words_at planes (block_of u l.cell))) (bit_of l.cell)
+has u planes l = nat_lt l.cell.cycle u.cycles && has_bit planes (block_of u l.cell) l.bit (bit_of l.cell)
 
 -- the literals of the planes
 abbrev pub lits : Unrolling → PlaneSet → Lit → Type 0
@@ -56,3 +52,16 @@ seen_of false false = Unknown
 seen_of true false = Zero
 seen_of false true = One
 seen_of true true = Both
+
+-- no bit is lost, those of the words are in the block, and no others are new
+pub record Joins (b : Block) (w : PinWord) (old new : PlaneSet) : Type 0 where
+  pub kept : (a : Block) (bit : Bool) (i : ℕ) → has_bit old a bit i ≡ true → has_bit new a bit i ≡ true
+  pub joined : (bit : Bool) (i : ℕ) → is_set (word_for bit w) i ≡ true → has_bit new b bit i ≡ true
+  pub only : (a : Block) (bit : Bool) (i : ℕ) → has_bit new a bit i ≡ true → (has_bit old a bit i ≡ true) ⊎ ((a ≡ b) × (is_set (word_for bit w) i ≡ true))
+
+-- a literal of the words of a block that the planes do not have
+pub record IsNewIn (u : Unrolling) (planes : PlaneSet) (b : Block) (w : PinWord) (l : Lit) : Type 0 where
+  pub in_block : block_of u l.cell ≡ b
+  pub in_time : l.cell.cycle < u.cycles
+  pub unknown : IsFalse (has u planes l)
+  pub listed : IsTrue (is_set (word_for l.bit w) (bit_of l.cell))

@@ -7,7 +7,7 @@ ghost use Rattle.unroll.specs.Problem.{signals_in};
 ghost use Rattle.known_planes.specs.Planes.{IsOf, lits};
 ghost use Rattle.known_planes.specs.Clash.{has_both_at};
 
-use crate::planes::{Planes, is_set};
+use crate::planes::Planes;
 use sr_model::{Cell, Sig};
 use unroll::Problem;
 
@@ -41,7 +41,7 @@ impl Planes {
         let mut both = 0;
         for s in 0..self.signals() {
             let words = self.pair(Sig(s), chunk);
-            both |= words.zero & words.one;
+            both |= words.both();
         }
         both
     }
@@ -55,7 +55,7 @@ impl Planes {
     {
         for s in 0..self.signals() {
             let words = self.pair(Sig(s), chunk);
-            if is_set(words.zero & words.one, i) {
+            if words.has(false, i) && words.has(true, i) {
                 return Some(Sig(s));
             }
         }

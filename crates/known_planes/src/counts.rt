@@ -2,6 +2,7 @@
 ghost use Rattle.std.specs.Prelude.{◌≡◌, ◌≤◌, ◌<◌, ◌*◌};
 ghost use Rattle.std.specs.List.{sum_by};
 ghost use Rattle.netlist.specs.Wiring.{flip_flops, signals_below};
+ghost use Rattle.sr_model.specs.Limits.{max_cycles, max_signals};
 ghost use Rattle.unroll.specs.Problem.{Unrolling, chunks_in};
 ghost use Rattle.known_planes.specs.Planes.{IsOf, has};
 ghost use Rattle.known_planes.specs.Counts.{known_count, literal_count, bits_in, known_bits_at, literal_bits_at};
@@ -15,7 +16,7 @@ impl Planes {
     pub fn count_known_flip_flops(&self, p: &Problem) -> u64
         requires { IsOf p.now self.now }
         ensures count { result ≡ known_count p.now.circuit p.now.cycles (has p.now self.now) }
-        ensures few { result ≤ 536870912 }
+        ensures few { result ≤ max_signals * max_cycles }
     {
         let mut count = 0;
         for chunk in 0..self.chunks() {
@@ -40,12 +41,12 @@ impl Planes {
         requires of { IsOf p.now self.now }
         requires chunk { chunk < self.now.chunks }
         ensures count { result ≡ sum_by (λ s. known_bits_at self.now s.0 chunk) (flip_flops p.now.circuit.drivers) }
-        ensures few { result ≤ 64 * 65536 }
+        ensures few { result ≤ 64 * max_signals }
     {
         let mut count = 0;
         for s in p.net().flip_flops() {
             let words = self.pair(*s, chunk);
-            count += u64::from(count_bits(words.zero | words.one));
+            count += u64::from(count_bits(words.known()));
         }
         count
     }
@@ -54,7 +55,7 @@ impl Planes {
     fn literals_in_chunk(&self, chunk: u32) -> u64
         requires { chunk < self.now.chunks }
         ensures count { result ≡ sum_by (λ s. literal_bits_at self.now s.0 chunk) (signals_below self.now.signals) }
-        ensures few { result ≤ 128 * 65536 }
+        ensures few { result ≤ 128 * max_signals }
     {
         let mut count = 0;
         for s in 0..self.signals() {

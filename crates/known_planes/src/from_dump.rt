@@ -4,14 +4,14 @@ ghost use Rattle.sr_model.specs.declared.cells.Lit.{Lit};
 ghost use Rattle.sr_model.specs.Dump.{dump_has, is_bit};
 ghost use Rattle.dump_reader.specs.Recording.{tri_bit};
 ghost use Rattle.unroll.specs.Bits.{is_set, word_for};
-ghost use Rattle.unroll.specs.Problem.{signals_in, chunks_in, block_at, HasNoLaterBit};
-ghost use Rattle.known_planes.specs.Planes.{has, words_at, with_words, IsOf, joined};
+ghost use Rattle.unroll.specs.Problem.{signals_in};
+ghost use Rattle.known_planes.specs.Planes.{has, IsOf};
 
 use crate::planes::Planes;
 use dump_reader::{Dump, Tri};
 use sr_model::{NoMemory, Sig};
 use std::alloc::Global;
-use unroll::{PinWord, Problem};
+use unroll::{InChunk, PinWord, Problem};
 
 /// The planes with the literals of a dump. Time is linear in the blocks and in the dump's cells.
 pub fn seed(alloc: Global, p: &Problem, d: &Dump) -> Result<Planes, NoMemory>
@@ -39,25 +39,8 @@ fn join_row(planes: &mut Planes, p: &Problem, s: Sig, cells: &[Tri])
         let start = 64 * chunk as usize;
         let end = cells.len().min(start + 64);
         let words = words_of(&cells[start..end]);
-        join_words(planes, p, s, chunk, words);
+        planes.add_in_chunk(p, InChunk { sig: s, chunk }, words);
     }
-}
-
-/// Adds literals of a signal in a chunk.
-fn join_words(planes: &mut Planes, p: &Problem, s: Sig, chunk: u32, words: PinWord)
-    requires of { IsOf p.now planes.old }
-    requires signal { s.0 < signals_in p.now }
-    requires chunk { chunk < chunks_in p.now }
-    requires no_later { HasNoLaterBit p.now.cycles chunk words }
-    ensures of { IsOf p.now planes.new }
-    ensures words { planes.new ≡ with_words planes.old (block_at p.now s chunk) (joined (words_at planes.old (block_at p.now s chunk)) words) }
-{
-    let old = planes.word_in_chunk(p, s, chunk);
-    let new = PinWord {
-        zero: old.zero | words.zero,
-        one: old.one | words.one,
-    };
-    planes.set_in_chunk(p, s, chunk, new);
 }
 
 /// The literals of up to 64 cells.
@@ -65,7 +48,7 @@ fn words_of(cells: &[Tri]) -> PinWord
     requires { length cells.now ≤ 64 }
     ensures { (bit : Bool) (i : ℕ) → is_set (word_for bit result) i ≡ is_bit (slice_get (map tri_bit cells.now) i) bit }
 {
-    let mut words = PinWord { zero: 0, one: 0 };
+    let mut words = PinWord::none();
     for (i, cell) in cells.iter().enumerate() {
         match cell {
             Tri::Zero => words.zero |= 1 << i,

@@ -1,4 +1,10 @@
-//! A set of literals over the blocks of a problem, in two bits for each cell, and the boundary through which a closure of it is taken.
+//! What is known of a problem's cells: a set of literals, and the boundary through which its closure is taken.
+//!
+//! `planes` keeps the set in two words for each block: where they lie, how they are read, added to and replaced, and what is seen of a cell. `from_dump` makes it of a
+//! dump, `clash` finds the least cell with both literals, and `counts` counts literals and known cells of flip-flops. `closer` is the trait of whatever gives a closure.
+//! `laws` says that bits are literals, and what their counts are.
+//!
+//! Only tested: that a closer may refuse, and can be called again. A problem's limits are those of its planes, which take 16 bytes for each block and no more memory later.
 #![tactic(auto)]
 
 mod clash;

@@ -1,16 +1,17 @@
 //! A set of literals, kept as one flat list of words.
-ghost use Rattle.std.specs.Prelude.{◌≡◌, ◌<◌, ◌≤◌, ◌*◌, ◌+◌, length, false, true, IfOk, slice_set, replicate};
+ghost use Rattle.std.specs.Prelude.{ℕ, ◌≡◌, ◌≢◌, ◌<◌, ◌≤◌, ◌*◌, ◌+◌, Bool, length, false, true, IfOk, slice_set, replicate};
 ghost use Rattle.sr_model.specs.declared.cells.Lit.{Lit};
 ghost use Rattle.sr_model.specs.Closure.{lit};
-ghost use Rattle.unroll.specs.Bits.{is_set};
-ghost use Rattle.unroll.specs.Problem.{signals_in, chunks_in, blocks_in, block_at, chunk_at, HasNoLaterBit};
-ghost use Rattle.known_planes.specs.Planes.{has, pair_in, words_at, with_words, IsOf, seen_of};
+ghost use Rattle.sr_model.specs.Limits.{chunk_count, max_cycles, max_signals};
+ghost use Rattle.unroll.specs.Bits.{is_set, word_for, union_of};
+ghost use Rattle.unroll.specs.Problem.{signals_in, blocks_in, block_in, chunk_at, HasNoLaterBit, IsInside};
+ghost use Rattle.known_planes.specs.Planes.{has, has_bit, pair_in, words_at, with_words, IsOf, IsNewIn, Joins, seen_of};
 ghost use Rattle.known_planes.specs.Layout.{place_of};
 
 use sr_model::{Cell, NoMemory, Sig};
 use std::alloc::Global;
 use std::marker::Model;
-use unroll::{Block, PinWord, Problem};
+use unroll::{Block, InChunk, PinWord, Problem};
 
 /// What planes have of a cell.
 #[derive(Clone, Copy, Debug, PartialEq, Eq)]
@@ -91,25 +92,47 @@ impl Planes {
     }
 
     /// The words of a signal in a chunk.
-    pub fn word_in_chunk(&self, _p: &Problem, s: Sig, chunk: u32) -> PinWord
+    pub fn word_in_chunk(&self, _p: &Problem, at: InChunk) -> PinWord
         requires of { IsOf _p.now self.now }
-        requires signal { s.0 < signals_in _p.now }
-        requires chunk { chunk < chunks_in _p.now }
-        ensures { result ≡ words_at self.now (block_at _p.now s chunk) }
+        requires inside { IsInside _p.now at }
+        ensures { result ≡ words_at self.now (block_in _p.now at) }
     {
-        self.pair(s, chunk)
+        self.pair(at.sig, at.chunk)
     }
 
     /// Replaces the words of a signal in a chunk.
-    pub fn set_in_chunk(&mut self, _p: &Problem, s: Sig, chunk: u32, w: PinWord)
+    pub fn set_in_chunk(&mut self, _p: &Problem, at: InChunk, w: PinWord)
         requires of { IsOf _p.now self.old }
-        requires signal { s.0 < signals_in _p.now }
-        requires chunk { chunk < chunks_in _p.now }
-        requires no_later { HasNoLaterBit _p.now.cycles chunk w }
-        ensures words { self.new ≡ with_words self.old (block_at _p.now s chunk) w }
+        requires inside { IsInside _p.now at }
+        requires no_later { HasNoLaterBit _p.now.cycles at.chunk w }
+        ensures words { self.new ≡ with_words self.old (block_in _p.now at) w }
         ensures of { IsOf _p.now self.new }
     {
-        self.set_pair(s, chunk, w);
+        self.set_pair(at.sig, at.chunk, w);
+    }
+
+    /// The cycles of a chunk in which the words have a literal of the signal that the planes do not have.
+    pub fn new_in_chunk(&self, p: &Problem, at: InChunk, words: PinWord) -> u64
+        requires of { IsOf p.now self.now }
+        requires inside { IsInside p.now at }
+        requires no_later { HasNoLaterBit p.now.cycles at.chunk words }
+        ensures known { (bit : Bool) (i : ℕ) → is_set result i ≡ false → is_set (word_for bit words) i ≡ true → has_bit self.now (block_in p.now at) bit i ≡ true }
+        ensures new { result ≢ 0 → (l : Lit) × IsNewIn p.now self.now (block_in p.now at) words l }
+    {
+        words.without(self.word_in_chunk(p, at)).known()
+    }
+
+    /// Adds the literals of the words to those of a signal in a chunk.
+    pub fn add_in_chunk(&mut self, p: &Problem, at: InChunk, words: PinWord)
+        requires of { IsOf p.now self.old }
+        requires inside { IsInside p.now at }
+        requires no_later { HasNoLaterBit p.now.cycles at.chunk words }
+        ensures words { self.new ≡ with_words self.old (block_in p.now at) (union_of (words_at self.old (block_in p.now at)) words) }
+        ensures joins { Joins (block_in p.now at) words self.old self.new }
+        ensures of { IsOf p.now self.new }
+    {
+        let all = self.word_in_chunk(p, at).union(words);
+        self.set_in_chunk(p, at, all);
     }
 
     /// What the planes have of a cell.
@@ -119,9 +142,11 @@ impl Planes {
         requires cycle { cell.cycle < p.now.cycles }
         ensures { result ≡ seen_of (has p.now self.now (lit cell false)) (has p.now self.now (lit cell true)) }
     {
-        let words = self.word_in_chunk(p, cell.sig, cell.cycle / 64);
+        let sig = cell.sig;
+        let chunk = cell.cycle / 64;
+        let words = self.word_in_chunk(p, InChunk { sig, chunk });
         let i = cell.cycle % 64;
-        match (is_set(words.zero, i), is_set(words.one, i)) {
+        match (words.has(false, i), words.has(true, i)) {
             (false, false) => Seen::Unknown,
             (true, false) => Seen::Zero,
             (false, true) => Seen::One,
@@ -132,7 +157,7 @@ impl Planes {
     /// How many signals the planes are over.
     pub(crate) fn signals(&self) -> u32
         ensures signals { result ≡ self.now.signals }
-        ensures few { result ≤ 65536 }
+        ensures few { result ≤ max_signals }
     {
         self.signals
     }
@@ -140,7 +165,7 @@ impl Planes {
     /// How many chunks the planes are over.
     pub(crate) fn chunks(&self) -> u32
         ensures chunks { result ≡ self.now.chunks }
-        ensures few { result ≤ 128 }
+        ensures few { result ≤ chunk_count max_cycles }
     {
         self.chunks
     }
@@ -182,18 +207,10 @@ fn zeros(alloc: Global, count: usize) -> Result<Vec<u64>, NoMemory>
 
 /// Where the words of a signal in a chunk lie: the zero word is here, and the one word behind it.
 fn place(signals: u32, s: Sig, chunk: u32) -> usize
-    requires signals { signals ≤ 65536 }
+    requires signals { signals ≤ max_signals }
     requires signal { s.0 < signals }
-    requires chunk { chunk < 128 }
+    requires chunk { chunk < chunk_count max_cycles }
     ensures { result ≡ place_of signals s.0 chunk }
 {
     2 * (chunk as usize * signals as usize + s.0 as usize)
-}
-
-/// Whether bit i of the word is set.
-pub(crate) fn is_set(word: u64, i: u32) -> bool
-    requires { i < 64 }
-    ensures { result ≡ is_set word i }
-{
-    (word >> i) & 1 == 1
 }

@@ -11,7 +11,7 @@ use std::alloc::Global;
 use std::process::Abort;
 use std::test::Fail;
 use std::thread::Threads;
-use unroll::{Block, PinWord, Problem};
+use unroll::{Block, InChunk, PinWord, Problem};
 
 fn to_bytes(alloc: Global, text: &[u8]) -> Result<Bytes, NoMemory> {
     let mut bytes = Bytes::new(alloc);
@@ -43,11 +43,7 @@ fn words(p: &Problem, chunk: u32, zero: u64, one: u64) -> PinWord
     requires { chunk < chunks_in p.now }
     ensures { HasNoLaterBit p.now.cycles chunk result }
 {
-    let valid = p.valid_bits(chunk);
-    PinWord {
-        zero: zero & valid,
-        one: one & valid,
-    }
+    PinWord { zero, one }.within(p.valid_bits(chunk))
 }
 
 /// Gives no closure.
@@ -118,7 +114,11 @@ fn add_both(p: &Problem, planes: &mut Planes)
     ensures { IsOf p.now planes.new }
 {
     planes.set(p, Block(1), words(p, 1, 3, 2));
-    planes.set_in_chunk(p, Sig(2), 1, words(p, 1, 1, 1));
+    let at = InChunk {
+        sig: Sig(2),
+        chunk: 1,
+    };
+    planes.set_in_chunk(p, at, words(p, 1, 1, 1));
 }
 
 fn all_seen(rt: &impl Abort, p: &Problem, planes: &Planes) -> Result<(), Fail>

@@ -1,35 +1,34 @@
 -- Planes with the literals of others, and what is done there before any turn.
-use Rattle.std.proofs.Common.{ℕ, ◌≡◌, ◌<◌, ◌≤◌, ◌+◌, ◌/◌, ◌||◌, Bool, true, false, length, bit_and, arith, inl, inr, sym, ap, subst, ◌∙◌}
+use Rattle.std.proofs.Common.{ℕ, ◌≡◌, ◌<◌, ◌≤◌, ◌+◌, ◌/◌, ◌||◌, Bool, true, false, length, arith, inl, inr, sym, ap, subst, ◌∙◌}
 use Rattle.std.proofs.lemmas.Bool.{cases_lt, and_parts, or_cases, or_left, or_right, true≢false}
 use Rattle.sr_model.specs.declared.cells.Sig.{Sig}
 use Rattle.sr_model.specs.declared.cells.Lit.{Lit}
 use Rattle.sr_model.specs.Closure.{Closure, SameLits, lit, passing, LitSet}
 use Rattle.sr_model.proofs.lemmas.Laws.{monotone, has_base, forced_between, closed_between}
 use Rattle.unroll.specs.declared.problem.Block.{Block}
+use Rattle.unroll.specs.declared.problem.InChunk.{InChunk}
 use Rattle.unroll.specs.declared.words.PinWord.{PinWord}
-use Rattle.unroll.specs.Bits.{is_set, is_cycle, word_for}
-use Rattle.unroll.specs.Problem.{Unrolling, unrolled, IsProblem, signals_in, chunks_in, block_at, block_of, bit_of, HasNoLaterBit}
+use Rattle.unroll.specs.Bits.{is_set, word_for}
+use Rattle.unroll.specs.Problem.{Unrolling, unrolled, IsInside, IsProblem, signals_in, chunks_in, block_at, block_in, block_of, bit_of, HasNoLaterBit}
 use Rattle.unroll.specs.Tasks.{constant_tasks}
 use Rattle.unroll.specs.Laws.{ForcesFromNothing}
-use Rattle.unroll.proofs.lemmas.Blocks.{cycle-chunk, block-chunk, block-within}
-use Rattle.unroll.proofs.lemmas.Words.{is_set_and}
-use Rattle.unroll.proofs.lemmas.Tasks.{force_from_nothing}
+use Rattle.unroll.proofs.lemmas.Laws.{cycle-chunk, block-chunk, block-within, force_from_nothing}
 use Rattle.gate_rules.specs.Forced.{ForcedIn}
-use Rattle.known_planes.specs.Planes.{PlaneSet, has, lits, words_at, IsOf}
+use Rattle.known_planes.specs.Planes.{PlaneSet, has, lits, words_at, IsOf, Joins, has_bit}
 use Rattle.known_planes.proofs.lemmas.Laws.{literals_are_of_cells}
 use Rattle.plain_close.specs.Queues.{Waiting, Waits}
-use Rattle.plain_close.specs.Turns.{AreTasksOf, IsSettled, Pushed, Wakes, Joins, Adds, AddsRow, has_bit}
+use Rattle.plain_close.specs.Turns.{AreTasksOf, IsSettled, Pushed, Wakes, Adds, AddsChunk}
 use Rattle.gate_rules.proofs.lemmas.Laws.{forced_by_cells}
 use Rattle.plain_close.proofs.Waking.{member-cases}
 use Rattle.plain_close.proofs.Turning.{has-bit_of, bit-has, has-kept}
 
 -- one signal more
-pub row-more : (u : Unrolling) (other : PlaneSet) (chunk n : ℕ) (x y z : PlaneSet) (w : PinWord) → AddsRow u other chunk n x y
-    → ((b : Block) (bit : Bool) (i : ℕ) → has_bit y b bit i ≡ true → has_bit z b bit i ≡ true) → w ≡ words_at other (block_at u (record { 0 = n }) chunk)
-    → Joins (block_at u (record { 0 = n }) chunk) w y z → AddsRow u other chunk (n + 1) x z
-row-more u other chunk n x y z w before bits is step = record {
+pub chunk-more : (u : Unrolling) (other : PlaneSet) (chunk n : ℕ) (x y z : PlaneSet) (w : PinWord) → AddsChunk u other chunk n x y
+    → w ≡ words_at other (block_at u (record { 0 = n }) chunk)
+    → Joins (block_at u (record { 0 = n }) chunk) w y z → AddsChunk u other chunk (n + 1) x z
+chunk-more u other chunk n x y z w before is step = record {
   joined = λ s bit i early h. elim (cases_lt s.0 n) [
-    | inl below ↦ bits (block_at u s chunk) bit i (before.joined s bit i below h)
+    | inl below ↦ step.kept (block_at u s chunk) bit i (before.joined s bit i below h)
     | inr past ↦
         let same : record { 0 = n } ≡ s = ap (λ k. record { 0 = k }) (number n s.0 past early) in
         subst (λ (r : Sig). has_bit z (block_at u r chunk) bit i ≡ true) same
@@ -46,7 +45,7 @@ row-more u other chunk n x y z w before bits is step = record {
 
 -- one chunk more
 pub adds-more : (u : Unrolling) (other : PlaneSet) (n : ℕ) (x y z : PlaneSet) → Adds u other n x y
-    → ((b : Block) (bit : Bool) (i : ℕ) → has_bit y b bit i ≡ true → has_bit z b bit i ≡ true) → AddsRow u other n (signals_in u) y z → Adds u other (n + 1) x z
+    → ((b : Block) (bit : Bool) (i : ℕ) → has_bit y b bit i ≡ true → has_bit z b bit i ≡ true) → AddsChunk u other n (signals_in u) y z → Adds u other (n + 1) x z
 adds-more u other n x y z before bits step = record {
   joined = λ s chunk bit i h early set. elim (cases_lt chunk n) [
     | inl below ↦ bits (block_at u s chunk) bit i (before.joined s chunk bit i h below set)
@@ -115,10 +114,10 @@ pub no-tasks : (u : Unrolling) (q : Waiting) → q.signals ≡ signals_in u → 
 no-tasks u q signals chunks none = record { signals = signals; chunks = chunks; tasks = λ s c h. absurd (none s c h) }
 
 -- the words of planes have no bit of a later cycle
-pub no_later-in : (u : Unrolling) (other : PlaneSet) (s : Sig) (chunk : ℕ) (w : PinWord) → IsOf u other → s.0 < signals_in u → chunk < chunks_in u → w ≡ words_at other (block_at u s chunk) → HasNoLaterBit u.cycles chunk w
-no_later-in u other s chunk w of signal early is =
-    subst (HasNoLaterBit u.cycles chunk) (sym is)
-    (subst (λ c. HasNoLaterBit u.cycles c (words_at other (block_at u s chunk))) (block-chunk u s chunk early) (of.no_later (block_at u s chunk) (block-within u s chunk early signal)))
+pub no_later-in : (u : Unrolling) (other : PlaneSet) (at : InChunk) (w : PinWord) → IsOf u other → IsInside u at → w ≡ words_at other (block_in u at) → HasNoLaterBit u.cycles at.chunk w
+no_later-in u other at w of inside is =
+    subst (HasNoLaterBit u.cycles at.chunk) (sym is)
+    (subst (λ c. HasNoLaterBit u.cycles c (words_at other (block_in u at))) (block-chunk u at.sig at.chunk inside.1) (of.no_later (block_in u at) (block-within u at.sig at.chunk inside.1 inside.0)))
 
 -- the literals of planes that had none
 pub added-to_none : (u : Unrolling) (x other z : PlaneSet) (before after : Waiting) → ((l : Lit) → has u x l ≡ false) → IsOf u other → Wakes u x z before after → Adds u other (chunks_in u) x z
@@ -138,11 +137,3 @@ closed_again u planes base closed = (
   (closed_between (unrolled u) (lits u planes) (lits u planes) (λ l h. h) (has_base (unrolled u) (lits u planes))
       (λ l forced. closed.1 l (forced_between (unrolled u) (lits u base) (lits u planes) (λ m h. closed.1 m (has_base (unrolled u) (lits u base) m h)) closed.0 l forced))).1,
 )
-
--- words without the bits of cycles that are not there
-pub masked : (u : Unrolling) (chunk z o valid : ℕ) → ((i : ℕ) → i < 64 → is_set valid i ≡ is_cycle u.cycles chunk i)
-    → HasNoLaterBit u.cycles chunk (record { zero = bit_and z valid; one = bit_and o valid })
-masked u chunk z o valid valid_is true i few h =
-    sym (valid_is i few) ∙ (and_parts (is_set o i) (is_set valid i) (sym (is_set_and o valid i) ∙ h)).1
-masked u chunk z o valid valid_is false i few h =
-    sym (valid_is i few) ∙ (and_parts (is_set z i) (is_set valid i) (sym (is_set_and z valid i) ∙ h)).1

@@ -8,15 +8,14 @@ use Rattle.unroll.specs.declared.problem.Task.{Task}
 use Rattle.unroll.specs.Bits.{is_set, word_for}
 use Rattle.unroll.specs.Problem.{Unrolling, unrolled}
 use Rattle.unroll.specs.Tasks.{IsTask, task_of, task_at, target_of, chunk_of}
-use Rattle.unroll.proofs.lemmas.Blocks.{task-itself}
-use Rattle.unroll.proofs.lemmas.Tasks.{each_in_one_task}
+use Rattle.unroll.proofs.lemmas.Laws.{task-itself, each_in_one_task}
 use Rattle.gate_rules.specs.Forced.{ForcedIn}
-use Rattle.known_planes.specs.Planes.{PlaneSet, has, lits, words_at}
-use Rattle.plain_close.specs.declared.task_queues.InChunk.{InChunk}
+use Rattle.known_planes.specs.Planes.{PlaneSet, has, lits, words_at, has_bit}
 use Rattle.plain_close.specs.Queues.{Waiting, Waits}
-use Rattle.plain_close.specs.Turns.{AreTasksOf, TaskWaits, IsSettled, AddsForced, has_bit}
+use Rattle.plain_close.specs.Turns.{AreTasksOf, TaskWaits, IsSettled, AddsForced}
 use Rattle.plain_close.specs.Levels.{IsNoted}
 use Rattle.plain_close.proofs.Turning.{has-kept}
+use Rattle.unroll.specs.declared.problem.InChunk.{InChunk}
 
 -- the next planes have only what is forced from these, and all of it but for the tasks that wait
 pub record IsForcing (u : Unrolling) (planes : PlaneSet) (q : Waiting) (next : PlaneSet) (changed : List InChunk) : Type 0 where

@@ -1,50 +1,24 @@
 -- The tasks that fresh bits of a block are in.
-use Rattle.std.proofs.Common.{ℕ, ◌≡◌, ◌+◌, ◌-◌, ◌/◌, ◌%◌, ◌≤◌, ◌⊎◌, ◌&&◌, ◌||◌, Bool, true, false, not, cond, eqb, ltb, List, [], ◌∷◌, map, bit_or, bit_xor, arith, inl, inr, refl, sym, ap, subst, ◌∙◌}
+use Rattle.std.proofs.Common.{ℕ, ◌≡◌, ◌+◌, ◌-◌, ◌/◌, ◌%◌, ◌≤◌, ◌⊎◌, ◌&&◌, ◌||◌, Bool, true, false, not, cond, eqb, ltb, List, [], ◌∷◌, ◌++◌, map, arith, inl, inr, refl, sym, ap, subst, ◌∙◌}
 use Rattle.std.specs.List.{Contains}
 use Rattle.std.proofs.lemmas.Bool.{cases_Bool, cond-true, cond-false, and_from, or_right, lt-ltb, ltb-false, eqb-true, not_from_false, true≢false}
 use Rattle.std.proofs.lemmas.Nat.Bits.{bit_at_above}
 use Rattle.std.proofs.lemmas.List.Elements.{Contains-append_left, Contains-append_right}
 use Rattle.sr_model.specs.declared.gates.Kind.{Kind}
-use Rattle.sr_model.specs.declared.gates.Kind.TheVariants.{And, Nand, Or, Nor, Xor, Xnor, Not, Buf, Dff}
 use Rattle.sr_model.specs.declared.cells.Sig.{Sig}
 use Rattle.sr_model.specs.declared.cells.Cell.{Cell}
 use Rattle.sr_model.specs.declared.cells.Place.{Place}
-use Rattle.sr_model.specs.Netlist.{Driver, Driven, cell_at, delay}
+use Rattle.sr_model.specs.Netlist.{Driver, Input, Driven, cell_at, delay}
 use Rattle.sr_model.proofs.lemmas.Members.{Contains-here, Contains-map, filter-has}
-use Rattle.netlist.specs.Wiring.{driver_at, is_flip_flop, reads, readers, other_readers, signals_below}
+use Rattle.netlist.specs.Wiring.{driver_at, is_driven, is_flip_flop, reads, readers, other_readers, signals_below}
 use Rattle.netlist.proofs.lemmas.Signals.{signals_member}
 use Rattle.unroll.specs.declared.problem.Task.{Task}
-use Rattle.unroll.specs.declared.words.PinWord.{PinWord}
-use Rattle.unroll.specs.Bits.{is_set, word_for}
+use Rattle.unroll.specs.Bits.{is_set}
 use Rattle.unroll.specs.Problem.{Unrolling, signals_in, bit_of}
 use Rattle.unroll.specs.Tasks.{CellRole, IsCellOf, task_at, task_of}
-use Rattle.unroll.proofs.lemmas.Blocks.{one-task}
-use Rattle.unroll.proofs.lemmas.Tasks.{role, delay-cases, later-chunk, pin-read, target-within}
-use Rattle.unroll.proofs.lemmas.Words.{is_set_or, is_set_xor, differ}
+use Rattle.unroll.proofs.lemmas.Tasks.{one-task, delay-cases, later-chunk, pin-read, target-within}
+use Rattle.unroll.proofs.lemmas.Laws.{role}
 use Rattle.plain_close.specs.Turns.{before_woken, chunk_woken, own_woken, woken_from}
-
--- where no bit differs, both words have the same
-same-bit : (a b : Bool) → differ a b ≡ false → b ≡ a
-same-bit true true e = refl
-same-bit true false e = cc
-same-bit false false e = refl
-same-bit false true e = cc
-
-none-of : (a b : Bool) → (a || b) ≡ false → (a ≡ false) × (b ≡ false)
-none-of false false e = (refl, refl)
-none-of true b e = cc
-none-of false true e = cc
-
-pub not_fresh : (old new : PinWord) (i : ℕ) (bit : Bool) → is_set (bit_or (bit_xor old.zero new.zero) (bit_xor old.one new.one)) i ≡ false → is_set (word_for bit new) i ≡ is_set (word_for bit old) i
-not_fresh old new i bit e =
-    let both : (is_set (bit_xor old.zero new.zero) i ≡ false) × (is_set (bit_xor old.one new.one) i ≡ false) =
-    none-of (is_set (bit_xor old.zero new.zero) i) (is_set (bit_xor old.one new.one) i) (sym (is_set_or (bit_xor old.zero new.zero) (bit_xor old.one new.one) i) ∙ e) in
-    at bit (same-bit (is_set old.zero i) (is_set new.zero i) (sym (is_set_xor old.zero new.zero i) ∙ both.0))
-    (same-bit (is_set old.one i) (is_set new.one i) (sym (is_set_xor old.one new.one i) ∙ both.1))
-  where
-    at : (b : Bool) → is_set new.zero i ≡ is_set old.zero i → is_set new.one i ≡ is_set old.one i → is_set (word_for b new) i ≡ is_set (word_for b old) i
-    at true zero one = one
-    at false zero one = zero
 
 -- a word that is not above 1 has no bit from 1 on
 no-later : (fresh i : ℕ) → (ltb 1 fresh ≡ false) → 1 ≤ i → is_set fresh i ≡ false
@@ -55,7 +29,19 @@ no-later fresh i few above =
 
 -- neither is so
 none-so : (a b : Bool) → (a || b) ≡ false → a ≡ false
-none-so a b e = (none-of a b e).0
+none-so false b e = refl
+none-so true b e = cc
+
+-- the own tasks of a flip-flop, and of a gate
+pub own-flip_flop : (u : Unrolling) (d : Driver) (s : Sig) (chunk fresh : ℕ) → is_flip_flop d ≡ true → own_woken u d s chunk fresh ≡ before_woken u s chunk fresh ++ chunk_woken u d s chunk fresh
+own-flip_flop u Input s chunk fresh e = cc
+own-flip_flop u (Driven kind pins) s chunk fresh e =
+    cond-true (is_flip_flop (Driven kind pins)) (before_woken u s chunk fresh ++ chunk_woken u (Driven kind pins) s chunk fresh) (task_at u s chunk ∷ []) e
+
+pub own-gate : (u : Unrolling) (d : Driver) (s : Sig) (chunk fresh : ℕ) → is_driven d ≡ true → is_flip_flop d ≡ false → own_woken u d s chunk fresh ≡ task_at u s chunk ∷ []
+own-gate u Input s chunk fresh driven e = cc
+own-gate u (Driven kind pins) s chunk fresh driven e =
+    cond-false (is_flip_flop (Driven kind pins)) (before_woken u s chunk fresh ++ chunk_woken u (Driven kind pins) s chunk fresh) (task_at u s chunk ∷ []) e
 
 module _ (u : Unrolling) (fresh : ℕ) where
   -- the task of a driven signal in the chunk, and that of a flip-flop in the chunk before
@@ -66,41 +52,27 @@ module _ (u : Unrolling) (fresh : ℕ) where
       (subst (λ (d : Driver). Contains (own_woken u d s chunk fresh) (task_at u s chunk)) (sym driver) (own kind on))
     where
       own : (k : Kind) → (is_flip_flop (Driven k pins) ≡ true → (ltb 1 fresh || reads (Driven k pins) s) ≡ true) → Contains (own_woken u (Driven k pins) s chunk fresh) (task_at u s chunk)
-      own Dff so =
-          Contains-append_right (before_woken u s chunk fresh) (chunk_woken u (Driven Dff pins) s chunk fresh) (task_at u s chunk)
-          (subst (λ ts. Contains ts (task_at u s chunk)) (sym (cond-true (ltb 1 fresh || reads (Driven Dff pins) s) (task_at u s chunk ∷ []) [] (so refl))) (Contains-here (task_at u s chunk) []))
-      own And so = Contains-here (task_at u s chunk) []
-      own Nand so = Contains-here (task_at u s chunk) []
-      own Or so = Contains-here (task_at u s chunk) []
-      own Nor so = Contains-here (task_at u s chunk) []
-      own Xor so = Contains-here (task_at u s chunk) []
-      own Xnor so = Contains-here (task_at u s chunk) []
-      own Not so = Contains-here (task_at u s chunk) []
-      own Buf so = Contains-here (task_at u s chunk) []
+      own k so =
+          elim (cases_Bool (is_flip_flop (Driven k pins))) [
+            | inl flip_flop ↦
+                subst (λ ts. Contains ts (task_at u s chunk)) (sym (own-flip_flop u (Driven k pins) s chunk fresh flip_flop))
+                (Contains-append_right (before_woken u s chunk fresh) (chunk_woken u (Driven k pins) s chunk fresh) (task_at u s chunk)
+                (subst (λ ts. Contains ts (task_at u s chunk)) (sym (cond-true (ltb 1 fresh || reads (Driven k pins) s) (task_at u s chunk ∷ []) [] (so flip_flop))) (Contains-here (task_at u s chunk) [])))
+            | inr gate ↦ subst (λ ts. Contains ts (task_at u s chunk)) (sym (own-gate u (Driven k pins) s chunk fresh refl gate)) (Contains-here (task_at u s chunk) [])
+          ]
 
   before-listed : (s : Sig) (chunk : ℕ) (kind : Kind) (pins : List Sig) → driver_at u.circuit.drivers s.0 ≡ Driven kind pins → is_flip_flop (Driven kind pins) ≡ true → is_set fresh 0 ≡ true
       → Contains (woken_from u s (chunk + 1) fresh) (task_at u s chunk)
   before-listed s chunk kind pins driver flip_flop first =
       Contains-append_left (own_woken u (driver_at u.circuit.drivers s.0) s (chunk + 1) fresh) (map (λ r. task_at u r (chunk + 1)) (other_readers u.circuit.drivers s)) (task_at u s chunk)
-      (subst (λ (d : Driver). Contains (own_woken u d s (chunk + 1) fresh) (task_at u s chunk)) (sym driver) (own kind flip_flop))
+      (subst (λ ts. Contains ts (task_at u s chunk)) (sym (own-flip_flop u (driver_at u.circuit.drivers s.0) s (chunk + 1) fresh (ap is_flip_flop driver ∙ flip_flop)))
+      (Contains-append_left (before_woken u s (chunk + 1) fresh) (chunk_woken u (driver_at u.circuit.drivers s.0) s (chunk + 1) fresh) (task_at u s chunk)
+      (subst (λ ts. Contains ts (task_at u s chunk))
+      (sym (cond-true (ltb 0 (chunk + 1) && is_set fresh 0) (task_at u s (chunk + 1 - 1) ∷ []) [] (and_from (ltb 0 (chunk + 1)) (is_set fresh 0) (lt-ltb 0 (chunk + 1) (omega arith)) first)))
+      (subst (λ n. Contains (task_at u s n ∷ []) (task_at u s chunk)) (back chunk) (Contains-here (task_at u s chunk) [])))))
     where
       back : (n : ℕ) → n ≡ n + 1 - 1
       back n = omega arith
-
-      own : (k : Kind) → is_flip_flop (Driven k pins) ≡ true → Contains (own_woken u (Driven k pins) s (chunk + 1) fresh) (task_at u s chunk)
-      own Dff e =
-          Contains-append_left (before_woken u s (chunk + 1) fresh) (chunk_woken u (Driven Dff pins) s (chunk + 1) fresh) (task_at u s chunk)
-          (subst (λ ts. Contains ts (task_at u s chunk))
-          (sym (cond-true (ltb 0 (chunk + 1) && is_set fresh 0) (task_at u s (chunk + 1 - 1) ∷ []) [] (and_from (ltb 0 (chunk + 1)) (is_set fresh 0) (lt-ltb 0 (chunk + 1) (omega arith)) first)))
-          (subst (λ n. Contains (task_at u s n ∷ []) (task_at u s chunk)) (back chunk) (Contains-here (task_at u s chunk) [])))
-      own And e = cc
-      own Nand e = cc
-      own Or e = cc
-      own Nor e = cc
-      own Xor e = cc
-      own Xnor e = cc
-      own Not e = cc
-      own Buf e = cc
 
   module _ (p : Place) (c : Cell) (r : CellRole u p c) where
     -- what is to be shown of the cell

@@ -4,7 +4,6 @@ mod Pushing
 mod FreshBits
 mod TurnedTasks
 mod NoClash
-mod NewLits
 mod Noting
 mod Taking
 mod Forcing

@@ -9,17 +9,17 @@ use Rattle.sr_model.proofs.lemmas.Members.{not_in_nil, Contains-here}
 use Rattle.sr_model.proofs.lemmas.Laws.{ForcesSomewhere-more, least, level-later}
 use Rattle.unroll.specs.declared.problem.Block.{Block}
 use Rattle.unroll.specs.Bits.{is_set, word_for}
-use Rattle.unroll.specs.Problem.{Unrolling, unrolled, block_of, bit_of}
-use Rattle.known_planes.specs.Planes.{PlaneSet, IsOf, has, lits, words_at}
+use Rattle.unroll.specs.Problem.{Unrolling, unrolled, block_of, bit_of, block_in}
+use Rattle.known_planes.specs.Planes.{PlaneSet, IsOf, has, lits, words_at, has_bit}
 use Rattle.known_planes.specs.Counts.{literal_count}
 use Rattle.known_planes.proofs.lemmas.Laws.{more_literals_count_more, literals_are_bits}
-use Rattle.plain_close.specs.declared.task_queues.InChunk.{InChunk}
 use Rattle.plain_close.specs.declared.levels.Level.{Level}
 use Rattle.plain_close.specs.Queues.{Waiting}
-use Rattle.plain_close.specs.Turns.{IsSettled, Wakes, HaveNoClash, block_in, has_bit}
+use Rattle.plain_close.specs.Turns.{IsSettled, Wakes, HaveNoClash}
 use Rattle.plain_close.specs.Levels.{IsLevel, IsNext, IsNoted}
 use Rattle.gate_rules.proofs.lemmas.Laws.{forced_by_cells}
 use Rattle.plain_close.proofs.Turning.{has-kept, has-bit_of, bit-has}
+use Rattle.unroll.specs.declared.problem.InChunk.{InChunk}
 
 -- The next planes have all that these force, and the blocks in which they differ were taken over.
 module _ (u : Unrolling) (planes next : PlaneSet) (changed : List InChunk) (noted : IsNoted u planes next changed)
@@ -67,9 +67,9 @@ module _ (u : Unrolling) (planes next : PlaneSet) (changed : List InChunk) (note
         let found = noted.more block.0 block.1 in
         more_literals_count_more u planes after found.0 of (λ l h. to-after l (has-kept u planes next noted.kept l h)) found.2 (to-after found.0 found.3)
       where
-        one-block : (places : List InChunk) → (places ≡ [] → ⊥) → (b : Block) × Contains (map (block_in u) places) b
+        one-block : (in_chunks : List InChunk) → (in_chunks ≡ [] → ⊥) → (b : Block) × Contains (map (block_in u) in_chunks) b
         one-block [] apart = absurd (apart refl)
-        one-block (at ∷ places) apart = (block_in u at, Contains-here (block_in u at) (map (block_in u) places))
+        one-block (at ∷ in_chunks) apart = (block_in u at, Contains-here (block_in u at) (map (block_in u) in_chunks))
 
 -- The planes have the literals of the level with this number, and no cell has both at a level before. So far there are at least so many literals.
 pub record LevelAt (u : Unrolling) (base : PlaneSet) (number : ℕ) (at : Level) : Type 0 where

@@ -9,23 +9,21 @@ use Rattle.sr_model.specs.declared.gates.Kind.TheVariants.{Dff}
 use Rattle.sr_model.specs.Netlist.{Driver, Input, Driven}
 use Rattle.sr_model.proofs.lemmas.Members.{not_in_nil, Contains-cases, filter-member, filter-passes}
 use Rattle.netlist.specs.Wiring.{driver_at, kind_of, is_flip_flop, is_driven, reads, other_readers, signals_below, readers}
+use Rattle.unroll.specs.declared.problem.InChunk.{InChunk}
 use Rattle.unroll.specs.declared.problem.Task.{Task}
-use Rattle.unroll.specs.Problem.{Unrolling, IsProblem, chunks_in}
-use Rattle.unroll.specs.Tasks.{IsTask, task_at, target_of, target_block, chunk_of, constant_tasks}
-use Rattle.unroll.proofs.lemmas.Blocks.{block-sig, block-chunk, sig-within, chunk-within, some_chunk, task-itself}
-use Rattle.unroll.proofs.lemmas.Tasks.{reader-within, force_from_nothing}
+use Rattle.unroll.specs.Problem.{Unrolling, IsInside, IsProblem, chunks_in}
+use Rattle.unroll.specs.Tasks.{IsTask, task_at, target_of, target_block, chunk_of, constant_tasks, IsTaskAt}
+use Rattle.unroll.proofs.lemmas.Laws.{block-sig, block-chunk, sig-within, chunk-within, task-itself, force_from_nothing}
+use Rattle.unroll.proofs.lemmas.Tasks.{some_chunk, reader-within}
 use Rattle.plain_close.specs.Queues.{Waiting, Waits, IsFirst}
-use Rattle.plain_close.specs.Turns.{IsTaskAt, AreTasksOf, TaskWaits, Pushed, before_woken, chunk_woken, own_woken, woken_from}
-
-some-kind : (a b : Kind) → Some a ≡ Some b → a ≡ b
-some-kind a b e = cc
+use Rattle.plain_close.specs.Turns.{AreTasksOf, TaskWaits, Pushed, before_woken, chunk_woken, own_woken, woken_from}
 
 -- what waits by signal and chunk waits by its number
 pub task-waits : (u : Unrolling) (q : Waiting) (target : Sig) (chunk : ℕ) → chunk < chunks_in u → Waits q target chunk → TaskWaits u q (task_at u target chunk)
 task-waits u q target chunk early h =
     subst (λ s. Waits q s (chunk_of u (task_at u target chunk))) (sym (block-sig u target chunk early)) (subst (λ c. Waits q target c) (sym (block-chunk u target chunk early)) h)
 
-pub pushed-one : (u : Unrolling) (target : Sig) (chunk : ℕ) (old new : Waiting) → AreTasksOf u old → IsTaskAt u target chunk → new.signals ≡ old.signals → length new.rows ≡ length old.rows
+pub pushed-one : (u : Unrolling) (target : Sig) (chunk : ℕ) (old new : Waiting) → AreTasksOf u old → IsTaskAt u (record { sig = target; chunk = chunk }) → new.signals ≡ old.signals → length new.rows ≡ length old.rows
     → Waits new target chunk → ((s : Sig) (c : ℕ) → Waits old s c → Waits new s c) → ((s : Sig) (c : ℕ) → Waits new s c → Waits old s c ⊎ ((s ≡ target) × (c ≡ chunk)))
     → ((s : Sig) (c : ℕ) → IsFirst old s c → IsFirst new s c) → Pushed u (task_at u target chunk ∷ []) old new
 pushed-one u target chunk old new are is signals chunks waits kept only first = record {
@@ -34,7 +32,7 @@ pushed-one u target chunk old new are is signals chunks waits kept only first = 
     chunks = chunks ∙ are.chunks;
     tasks = λ s c h. elim (only s c h) [
       | inl before ↦ are.tasks s c before
-      | inr e ↦ subst (λ x. IsTaskAt u x c) (sym e.0) (subst (IsTaskAt u target) (sym e.1) is)
+      | inr e ↦ subst (IsTaskAt u) (ap (λ x. record { sig = x; chunk = chunk }) (sym e.0) ∙ ap (λ n. record { sig = s; chunk = n }) (sym e.1)) is
     ];
   };
   kept = λ t h. kept (target_of u t) (chunk_of u t) h;
@@ -65,18 +63,8 @@ pushed-then u xs ys a b c first second = record {
 pub pushed-same : (u : Unrolling) (xs ys : List Task) (a b : Waiting) → xs ≡ ys → Pushed u xs a b → Pushed u ys a b
 pushed-same u xs ys a b e p = subst (λ zs. Pushed u zs a b) e p
 
--- the tasks of a flip-flop itself that fresh bits are in
-pub own-flip_flop : (u : Unrolling) (d : Driver) (s : Sig) (chunk fresh : ℕ) → kind_of d ≡ Some Dff → own_woken u d s chunk fresh ≡ before_woken u s chunk fresh ++ chunk_woken u d s chunk fresh
-own-flip_flop u Input s chunk fresh e = cc
-own-flip_flop u (Driven kind pins) s chunk fresh e =
-    subst (λ k. own_woken u (Driven k pins) s chunk fresh ≡ before_woken u s chunk fresh ++ chunk_woken u (Driven k pins) s chunk fresh) (sym (some-kind kind Dff e)) refl
-
-pub is-flip_flop : (d : Driver) → kind_of d ≡ Some Dff → is_flip_flop d ≡ true
-is-flip_flop Input e = cc
-is-flip_flop (Driven kind pins) e = ap (λ k. is_flip_flop (Driven k pins)) (some-kind kind Dff e)
-
 -- each reader's task in the chunk is one
-pub reader-is : (u : Unrolling) (s : Sig) (chunk : ℕ) (rs : List Sig) → rs ≡ other_readers u.circuit.drivers s → chunk < chunks_in u → (i : ℕ) (d : Sig) → i < length rs → IsTaskAt u (get_or rs i d) chunk
+pub reader-is : (u : Unrolling) (s : Sig) (chunk : ℕ) (rs : List Sig) → rs ≡ other_readers u.circuit.drivers s → chunk < chunks_in u → (i : ℕ) (d : Sig) → i < length rs → IsTaskAt u (record { sig = get_or rs i d; chunk = chunk })
 reader-is u s chunk rs is early i d h =
     let r : Sig = get_or rs i d in
     let listed : Contains (other_readers u.circuit.drivers s) r = subst (λ xs. Contains xs r) is (Contains-get_or rs i d h) in
@@ -112,13 +100,8 @@ constant-is u is ts same i d h =
     let listed : Contains (constant_tasks u) (get_or ts i d) = subst (λ xs. Contains xs (get_or ts i d)) same (Contains-get_or ts i d h) in
     (((force_from_nothing u is).1 (get_or ts i d)).0 listed).0
 
-pub task-is : (u : Unrolling) (t : Task) → IsProblem u → IsTask u t → (s : Sig) → s ≡ target_of u t → (chunk : ℕ) → chunk ≡ chunk_of u t → IsTaskAt u s chunk
-task-is u t is task s s_is chunk chunk_is =
-    subst (λ x. IsTaskAt u x chunk) (sym s_is) (subst (IsTaskAt u (target_of u t)) (sym chunk_is) (record {
-      signal = sig-within u (target_block t) (some_chunk u is) task.0;
-      early = chunk-within u (target_block t) (some_chunk u is);
-      driven = task.1;
-    }))
+pub task-is : (u : Unrolling) (t : Task) → IsProblem u → IsTask u t → (at : InChunk) → IsInside u at → at.sig ≡ target_of u t → IsTaskAt u at
+task-is u t is task at inside sig = record { signal = inside.0; early = inside.1; driven = ap (λ (s : Sig). is_driven (driver_at u.circuit.drivers s.0)) sig ∙ task.1 }
 
 pub constants-more : (u : Unrolling) (ts : List Task) (i : ℕ) (d : Task) (a b c : Waiting) → i < length ts → Pushed u (take i ts) a b
     → (s : Sig) → s ≡ target_of u (get_or ts i d) → (chunk : ℕ) → chunk ≡ chunk_of u (get_or ts i d) → Pushed u (task_at u s chunk ∷ []) b c → Pushed u (take (i + 1) ts) a c

@@ -4,16 +4,16 @@ use Rattle.sr_model.specs.declared.cells.Sig.{Sig}
 use Rattle.sr_model.specs.declared.cells.Lit.{Lit}
 use Rattle.sr_model.specs.Closure.{lit}
 use Rattle.unroll.specs.declared.problem.Task.{Task}
-use Rattle.unroll.specs.Problem.{Unrolling, IsProblem, block_of, bit_of}
+use Rattle.unroll.specs.Problem.{Unrolling, IsProblem, block_of, bit_of, block_in}
 use Rattle.unroll.specs.Tasks.{drives_itself, target_of, blocks_of}
-use Rattle.unroll.proofs.lemmas.Tasks.{have_its_cells}
+use Rattle.unroll.proofs.lemmas.Laws.{have_its_cells}
 use Rattle.gate_rules.specs.Forced.{ForcedIn, IsDone}
 use Rattle.gate_rules.proofs.lemmas.Laws.{done_once}
 use Rattle.known_planes.specs.Planes.{PlaneSet, has}
-use Rattle.plain_close.specs.declared.task_queues.InChunk.{InChunk}
 use Rattle.plain_close.specs.Queues.{Waiting}
-use Rattle.plain_close.specs.Turns.{Turns, Falls, HaveNoClash, block_in}
+use Rattle.plain_close.specs.Turns.{Turns, Falls, HaveNoClash}
 use Rattle.plain_close.proofs.Turning.{has-bit_of}
+use Rattle.unroll.specs.declared.problem.InChunk.{InChunk}
 
 module _ (u : Unrolling) (is : IsProblem u) (t : Task) (old new : PlaneSet) (turn : Turns u t old new) (bits : (l : Lit) → has u old l ≡ true → has u new l ≡ true) where
   -- where nothing was added
@@ -36,8 +36,8 @@ module _ (u : Unrolling) (is : IsProblem u) (t : Task) (old new : PlaneSet) (tur
       (has-bit_of u new (lit c false) both.0).1 (has-bit_of u new (lit c true) both.1).1)
 
   -- so after a turn that need not be followed by another one
-  pub done-after : (s : Sig) (places : List InChunk) (added again : Bool) (before after : Waiting) → target_of u t ≡ s → map (block_in u) places ≡ blocks_of u t → Falls added old new before after
-      → (again ≡ false → added ≡ true → drives_itself u s ≡ false) → (again ≡ false → added ≡ true → HaveNoClash new (map (block_in u) places)) → again ≡ false → IsDone u t (has u new)
-  done-after s places true again before after target blocks falls other none no_more =
+  pub done-after : (s : Sig) (in_chunks : List InChunk) (added again : Bool) (before after : Waiting) → target_of u t ≡ s → map (block_in u) in_chunks ≡ blocks_of u t → Falls u added old new before after
+      → (again ≡ false → added ≡ true → drives_itself u s ≡ false) → (again ≡ false → added ≡ true → HaveNoClash new (map (block_in u) in_chunks)) → again ≡ false → IsDone u t (has u new)
+  done-after s in_chunks true again before after target blocks falls other none no_more =
       done-without_clash (ap (drives_itself u) target ∙ other no_more refl) (subst (HaveNoClash new) blocks (none no_more refl))
-  done-after s places false again before after target blocks falls other none no_more = done-same (falls.same refl).0
+  done-after s in_chunks false again before after target blocks falls other none no_more = done-same (falls.same refl).0

@@ -1,54 +1,40 @@
 -- The turn of a task, and turns one after another.
-use Rattle.std.proofs.Common.{ℕ, ◌≡◌, ◌<◌, ◌≤◌, ◌⊎◌, ◌&&◌, Bool, true, false, eqb, ltb, List, [], ◌∷◌, length, map, get_or, arith, inl, inr, refl, sym, ap, subst, ◌∙◌}
+use Rattle.std.proofs.Common.{ℕ, ◌≡◌, ◌<◌, ◌≤◌, ◌⊎◌, ◌&&◌, Bool, true, false, ltb, List, length, map, get_or, arith, inl, inr, refl, sym, ap, subst, ◌∙◌}
 use Rattle.std.specs.List.{Contains}
-use Rattle.std.proofs.lemmas.Bool.{cases_eq, cond-true, cond-false, eq-eqb, ne_eqb, and_parts, and_from, lt-ltb, ltb-true, true≢false}
-use Rattle.std.proofs.lemmas.List.{get_or_default, length-map}
+use Rattle.std.proofs.lemmas.Bool.{and_parts, and_from, lt-ltb, ltb-true}
+use Rattle.std.proofs.lemmas.List.{get_or-map, get_or_default, length-map}
+use Rattle.std.proofs.lemmas.List.Elements.{All-get_or}
 use Rattle.sr_model.specs.declared.cells.Sig.{Sig}
 use Rattle.sr_model.specs.declared.cells.Cell.{Cell}
 use Rattle.sr_model.specs.declared.cells.Lit.{Lit}
 use Rattle.sr_model.specs.Closure.{Closure, SameLits, IsClosed, lit}
 use Rattle.sr_model.proofs.lemmas.Laws.{forced_between, closed_between, same_closure, has_base}
-use Rattle.sr_model.proofs.lemmas.Members.{not_in_nil, Contains-cases, Contains-here}
+use Rattle.sr_model.proofs.lemmas.Members.{Contains-here}
+use Rattle.netlist.specs.Wiring.{driver_at, is_driven}
 use Rattle.unroll.specs.declared.problem.Block.{Block}
+use Rattle.unroll.specs.declared.problem.InChunk.{InChunk}
 use Rattle.unroll.specs.declared.problem.Task.{Task}
 use Rattle.unroll.specs.declared.words.PinWord.{PinWord}
-use Rattle.unroll.specs.Bits.{is_set, word_for}
-use Rattle.unroll.specs.Problem.{Unrolling, unrolled, IsProblem, chunks_in, block_of, bit_of, cell_of}
-use Rattle.unroll.specs.Tasks.{IsTask, IsCellOf, task_at, target_of, chunk_of, blocks_of, blocks_from}
-use Rattle.unroll.proofs.lemmas.Blocks.{task-itself, cell-itself, bit-small, blocks-at}
-use Rattle.unroll.proofs.lemmas.Words.{is_set_zero}
-use Rattle.unroll.proofs.lemmas.Tasks.{have_its_cells}
-use Rattle.gate_rules.specs.Forced.{ForcedIn, IsDone, IsForcedExactly, bit_at_place, lit_at_place, view_has, words_of}
-use Rattle.gate_rules.proofs.lemmas.Laws.{forced-in_time, closed_where_done, forced_by_cells}
-use Rattle.known_planes.specs.Planes.{PlaneSet, has, lits, words_at, no_bits, IsOf}
-use Rattle.plain_close.specs.declared.task_queues.InChunk.{InChunk}
+use Rattle.unroll.specs.Bits.{is_set, no_words, word_for}
+use Rattle.unroll.specs.Problem.{Unrolling, HaveNoLaterBit, IsInside, IsProblem, unrolled, chunks_in, blocks_in, block_in, block_of, bit_of, cell_of}
+use Rattle.unroll.specs.Tasks.{IsTask, IsTaskAt, IsCellOf, task_at, task_in, target_of, chunk_of, blocks_of, blocks_from}
+use Rattle.unroll.proofs.lemmas.Laws.{block-sig, block-within, task-itself, cell-itself, bit-small, blocks-at, have_its_cells}
+use Rattle.gate_rules.specs.Forced.{AreForcedBy, ForcedIn, IsDone, IsForcedExactly, IsViewOf, bit_at_place, lit_at_place}
+use Rattle.gate_rules.proofs.lemmas.Laws.{closed_where_done, forced_by_cells, forced_by_view, forced_on_cells}
+use Rattle.known_planes.specs.Planes.{PlaneSet, IsOf, has, has_bit, lits, words_at}
+use Rattle.known_planes.proofs.lemmas.Laws.{bits_are_literals}
 use Rattle.plain_close.specs.Queues.{Waiting, Waits, IsFirst}
-use Rattle.plain_close.specs.Turns.{IsTaskAt, AreTasksOf, TaskWaits, IsSettled, Wakes, JoinsFirst, AddsForced, AreForced, Turns, Between, block_in, has_bit, missing_of}
+use Rattle.plain_close.specs.Turns.{AreTasksOf, TaskWaits, IsSettled, Wakes, JoinsFirst, AddsForced, AreForced, Sees, Turns, Between, missing_of}
 
--- what the words beside the blocks are, where each is that of its block
-pub words-listed : (blocks : List Block) (f : Block → PinWord) (b : Block) → Contains blocks b → words_of blocks (map f blocks) b ≡ f b
-words-listed [] f b h = absurd (not_in_nil b h)
-words-listed (c ∷ blocks) f b h =
-    elim (cases_eq c.0 b.0) [
-      | inl same ↦ cond-true (eqb c.0 b.0) (f c) (words_of blocks (map f blocks) b) (eq-eqb c.0 b.0 same) ∙ ap f (ap (λ n. record { 0 = n }) same)
-      | inr other ↦
-          cond-false (eqb c.0 b.0) (f c) (words_of blocks (map f blocks) b) (ne_eqb c.0 b.0 other)
-          ∙ elim (Contains-cases c blocks b h) [
-            | inl e ↦ absurd (other (ap (λ (x : Block). x.0) e))
-            | inr later ↦ words-listed blocks f b later
-          ]
-    ]
+-- a gate or flip-flop in a chunk is a task
+task-within : (u : Unrolling) (at : InChunk) → IsTaskAt u at → IsTask u (task_in u at)
+task-within u at is = (block-within u at.sig at.chunk is.early is.signal, ap (λ (s : Sig). is_driven (driver_at u.circuit.drivers s.0)) (block-sig u at.sig at.chunk is.early) ∙ is.driven)
 
-pub words-or-none : (blocks : List Block) (f : Block → PinWord) (b : Block) → (words_of blocks (map f blocks) b ≡ f b) ⊎ (words_of blocks (map f blocks) b ≡ no_bits)
-words-or-none [] f b = inr refl
-words-or-none (c ∷ blocks) f b =
-    elim (cases_eq c.0 b.0) [
-      | inl same ↦ inl (cond-true (eqb c.0 b.0) (f c) (words_of blocks (map f blocks) b) (eq-eqb c.0 b.0 same) ∙ ap f (ap (λ n. record { 0 = n }) same))
-      | inr other ↦ elim (words-or-none blocks f b) [
-        | inl e ↦ inl (cond-false (eqb c.0 b.0) (f c) (words_of blocks (map f blocks) b) (ne_eqb c.0 b.0 other) ∙ e)
-        | inr e ↦ inr (cond-false (eqb c.0 b.0) (f c) (words_of blocks (map f blocks) b) (ne_eqb c.0 b.0 other) ∙ e)
-      ]
-    ]
+-- bits of which each one has what the other has are the same
+pub both-ways : (a b : Bool) → (a ≡ true → b ≡ true) → (b ≡ true → a ≡ true) → a ≡ b
+both-ways true b there back = sym (there refl)
+both-ways false true there back = back refl
+both-ways false false there back = refl
 
 -- a literal of planes is a bit of its block
 pub has-bit_of : (u : Unrolling) (planes : PlaneSet) (l : Lit) → has u planes l ≡ true → (l.cell.cycle < u.cycles) × (has_bit planes (block_of u l.cell) l.bit (bit_of l.cell) ≡ true)
@@ -67,61 +53,64 @@ has-kept u old new bits l h =
     let parts : (l.cell.cycle < u.cycles) × (has_bit old (block_of u l.cell) l.bit (bit_of l.cell) ≡ true) = has-bit_of u old l h in
     bit-has u new l parts.0 (bits (block_of u l.cell) l.bit (bit_of l.cell) parts.1)
 
-module _ (u : Unrolling) (is : IsProblem u) (t : Task) (seen old new : PlaneSet) (blocks : List Block) (view out : List PinWord)
-    (blocks_is : blocks ≡ blocks_of u t) (view_is : view ≡ map (words_at seen) blocks) (exact : IsForcedExactly u t blocks view out) (joins : JoinsFirst blocks out (length blocks) old new) where
-  listed : (c : Cell) → IsCellOf u t c → Contains blocks (block_of u c)
-  listed c of = subst (λ bs. Contains bs (block_of u c)) (sym blocks_is) (have_its_cells u t c is of)
+module _ (u : Unrolling) (is : IsProblem u) (t : Task) (seen old new : PlaneSet) (blocks : List Block) (out : List PinWord)
+    (blocks_are : blocks ≡ blocks_of u t) (exact : AreForcedBy u t blocks (has u seen) out) (joins : JoinsFirst blocks out (length blocks) old new) where
+  -- the literal of an index
+  at-index : (l : Lit) (index : ℕ) → l.cell.cycle < u.cycles → get_or blocks index (record { 0 = 0 }) ≡ block_of u l.cell → lit_at_place u blocks index l.bit (bit_of l.cell) ≡ l
+  at-index l index early e = ap (λ b. lit (cell_of u b (bit_of l.cell)) l.bit) e ∙ ap (λ c. lit c l.bit) (cell-itself u l.cell early)
 
-  -- on the task's cells the view has what the planes have
-  in-view : (c : Cell) (bit : Bool) → IsCellOf u t c → has u seen (lit c bit) ≡ true → view_has u blocks view (lit c bit) ≡ true
-  in-view c bit of h =
-      ap (λ ws. ltb c.cycle u.cycles && is_set (word_for bit (words_of blocks ws (block_of u c))) (bit_of c)) view_is
-      ∙ ap (λ w. ltb c.cycle u.cycles && is_set (word_for bit w) (bit_of c)) (words-listed blocks (words_at seen) (block_of u c) (listed c of)) ∙ h
-
-  -- and it has nothing else
-  from-view : (l : Lit) → view_has u blocks view l ≡ true → has u seen l ≡ true
-  from-view l h =
-      let found : (ltb l.cell.cycle u.cycles && is_set (word_for l.bit (words_of blocks (map (words_at seen) blocks) (block_of u l.cell))) (bit_of l.cell)) ≡ true =
-      ap (λ ws. ltb l.cell.cycle u.cycles && is_set (word_for l.bit (words_of blocks ws (block_of u l.cell))) (bit_of l.cell)) (sym view_is) ∙ h in
-      elim (words-or-none blocks (words_at seen) (block_of u l.cell)) [
-        | inl e ↦ ap (λ w. ltb l.cell.cycle u.cycles && is_set (word_for l.bit w) (bit_of l.cell)) (sym e) ∙ found
-        | inr e ↦
-            absurd (true≢false (sym (and_parts (ltb l.cell.cycle u.cycles) (is_set (word_for l.bit (words_of blocks (map (words_at seen) blocks) (block_of u l.cell))) (bit_of l.cell)) found).1
-            ∙ ap (λ w. is_set (word_for l.bit w) (bit_of l.cell)) e ∙ unset l.bit))
-      ]
-    where
-      unset : (bit : Bool) → is_set (word_for bit no_bits) (bit_of l.cell) ≡ false
-      unset true = is_set_zero (bit_of l.cell)
-      unset false = is_set_zero (bit_of l.cell)
-
-  -- the literal of a place
-  at-place : (l : Lit) (place : ℕ) → l.cell.cycle < u.cycles → get_or blocks place (record { 0 = 0 }) ≡ block_of u l.cell → lit_at_place u blocks place l.bit (bit_of l.cell) ≡ l
-  at-place l place early e =
-      ap (λ b. lit (cell_of u b (bit_of l.cell)) l.bit) e ∙ ap (λ c. lit c l.bit) (cell-itself u l.cell early)
-
-  pub adds-forced : AddsForced u t seen old new
+  adds-forced : AddsForced u t seen old new
   adds-forced = record {
     done = λ l f.
-        let early : l.cell.cycle < u.cycles = forced-in_time u t (has u seen) l f in
-        let seen : ForcedIn u t (view_has u blocks view) l = forced_by_cells u t (has u seen) (view_has u blocks view) in-view l f in
-        let of : IsCellOf u t l.cell = record { place = f.place; belongs = f.belongs; instance = f.forces.instance; stands = f.forces.stands; has_cell = f.forces.forces.on_cells } in
-        let there : Contains blocks (block_of u l.cell) = listed l.cell of in
+        let on_cells : IsCellOf u t l.cell × (l.cell.cycle < u.cycles) = forced_on_cells u t (has u seen) l f in
+        let there : Contains blocks (block_of u l.cell) = subst (λ bs. Contains bs (block_of u l.cell)) (sym blocks_are) (have_its_cells u t l.cell is on_cells.0) in
         let at : get_or blocks there.0 (record { 0 = 0 }) ≡ block_of u l.cell = get_or_default blocks there.0 (record { 0 = 0 }) (block_of u l.cell) there.1 ∙ there.2 in
         let set : bit_at_place out there.0 l.bit (bit_of l.cell) ≡ true =
-        (exact there.0 (bit_of l.cell) l.bit there.1 (bit-small l.cell)).1 (subst (ForcedIn u t (view_has u blocks view)) (sym (at-place l there.0 early at)) seen) in
-        bit-has u new l early (joins.joined (block_of u l.cell) l.bit (bit_of l.cell) (record { place = there.0; first = there.1; block = at; set = set }));
+        (exact there.0 (bit_of l.cell) l.bit there.1 (bit-small l.cell)).1 (subst (ForcedIn u t (has u seen)) (sym (at-index l there.0 on_cells.1 at)) f) in
+        bit-has u new l on_cells.1 (joins.joined (block_of u l.cell) l.bit (bit_of l.cell) (record { index = there.0; first = there.1; block = at; set = set }));
     only = λ l h.
         let parts : (l.cell.cycle < u.cycles) × (has_bit new (block_of u l.cell) l.bit (bit_of l.cell) ≡ true) = has-bit_of u new l h in
         elim (joins.only (block_of u l.cell) l.bit (bit_of l.cell) parts.1) [
           | inl before ↦ inl (bit-has u old l parts.0 before)
-          | inr among ↦ inr (forced_by_cells u t (view_has u blocks view) (has u seen) (λ c bit of. from-view (lit c bit)) l
-              (subst (ForcedIn u t (view_has u blocks view)) (at-place l among.place parts.0 among.block)
-              ((exact among.place (bit_of l.cell) l.bit among.first (bit-small l.cell)).0 among.set)))
+          | inr among ↦ inr (subst (ForcedIn u t (has u seen)) (at-index l among.index parts.0 among.block) ((exact among.index (bit_of l.cell) l.bit among.first (bit-small l.cell)).0 among.set))
         ];
   }
 
+-- what a task forces from the words that were seen is what it forces from the planes
+module _ (u : Unrolling) (planes : PlaneSet) (task : InChunk) (in_chunks : List InChunk) (view empty out : List PinWord) (is : IsProblem u) (of : IsOf u planes) (is_task : IsTaskAt u task)
+    (sees : Sees u planes (blocks_from u task.sig task.chunk) in_chunks view empty) where
+  by-view : (blocks : List Block) → blocks ≡ blocks_of u (task_in u task) → length view ≡ length blocks → IsViewOf u blocks (has u planes) view → IsForcedExactly u (task_in u task) blocks view out
+      → AreForcedBy u (task_in u task) blocks (has u planes) out
+  by-view blocks same =
+      subst (λ bs. length view ≡ length bs → IsViewOf u bs (has u planes) view → IsForcedExactly u (task_in u task) bs view out → AreForcedBy u (task_in u task) bs (has u planes) out) (sym same)
+      (λ size viewed. (forced_by_view u (task_in u task) (has u planes) view out is (task-within u task is_task) size viewed).0)
+
+  viewed : IsViewOf u (map (block_in u) in_chunks) (has u planes) view
+  viewed index i bit within few early =
+      let at : InChunk = get_or in_chunks index (record { sig = record { 0 = 0 }; chunk = 0 }) in
+      let listed : index < length in_chunks = subst (λ n. index < n) (length-map in_chunks (block_in u)) within in
+      let block : get_or (map (block_in u) in_chunks) index (record { 0 = 0 }) ≡ block_in u at = get_or-map (block_in u) in_chunks index (record { sig = record { 0 = 0 }; chunk = 0 }) (record { 0 = 0 }) listed in
+      let inside : IsInside u at = All-get_or (IsInside u) in_chunks index (record { sig = record { 0 = 0 }; chunk = 0 }) listed sees.inside in
+      ap (λ ws. bit_at_place ws index bit i) (sees.view_is ∙ ap (map (words_at planes)) (sym sees.blocks_are))
+      ∙ ap (λ w. is_set (word_for bit w) i) (get_or-map (words_at planes) (map (block_in u) in_chunks) index (record { 0 = 0 }) no_words within)
+      ∙ bits_are_literals u planes (get_or (map (block_in u) in_chunks) index (record { 0 = 0 })) bit i is of
+      (subst (λ (b : Block). b.0 < blocks_in u) (sym block) (block-within u at.sig at.chunk inside.1 inside.0)) few
+
+  pub forced-seen : (blocks : List Block) → blocks ≡ blocks_from u task.sig task.chunk → length out ≡ length blocks → IsForcedExactly u (task_in u task) blocks view out → HaveNoLaterBit u blocks out
+      → AreForced u planes task in_chunks out
+  forced-seen blocks same size exact later = record {
+    problem = is;
+    inside = sees.inside;
+    blocks_are = sees.blocks_are;
+    out_size = size ∙ ap length (same ∙ sym sees.blocks_are) ∙ length-map in_chunks (block_in u);
+    exact = by-view (map (block_in u) in_chunks) (sees.blocks_are ∙ sym (blocks-at u task.sig task.chunk is_task.early))
+        (ap length (sees.view_is ∙ ap (map (words_at planes)) (sym sees.blocks_are)) ∙ length-map (map (block_in u) in_chunks) (words_at planes)) viewed
+        (subst (λ bs. IsForcedExactly u (task_in u task) bs view out) (same ∙ sym sees.blocks_are) exact);
+    later = subst (λ bs. HaveNoLaterBit u bs out) (same ∙ sym sees.blocks_are) later;
+  }
+
 -- the first that waits is a task
-pub first-task : (u : Unrolling) (q : Waiting) (s : Sig) (chunk : ℕ) → AreTasksOf u q → IsFirst q s chunk → IsTaskAt u s chunk
+pub first-task : (u : Unrolling) (q : Waiting) (s : Sig) (chunk : ℕ) → AreTasksOf u q → IsFirst q s chunk → IsTaskAt u (record { sig = s; chunk = chunk })
 first-task u q s chunk are first = are.tasks s chunk (subst (λ r. Contains r s) (sym first.first) (Contains-here s first.others))
 
 -- the tasks that are left after one was taken
@@ -140,7 +129,7 @@ between-none u planes q of are settled = record {
 }
 
 -- A task had its turn. What waits after it waits on, or is done.
-pub between-turn : (u : Unrolling) (x y z : PlaneSet) (q after left : Waiting) (t : Task) → Between u x y q → Wakes u y z q after → missing_of z ≤ missing_of y → Turns u t y z
+pub between-turn : (u : Unrolling) (x y z : PlaneSet) (q after left : Waiting) (t : Task) → Between u x y q → Wakes u y z q after → missing_of u z ≤ missing_of u y → Turns u t y z
     → AreTasksOf u left → ((r : Task) → TaskWaits u after r → TaskWaits u left r ⊎ IsDone u r (has u z)) → Between u x z left
 between-turn u x y z q after left t before wakes no_more turn are waits_on = record {
   of = wakes.of;
@@ -199,9 +188,8 @@ pub closure-is : (u : Unrolling) (x y : PlaneSet) (q : Waiting) → Between u x 
 closure-is u x y q between closed = closed_between (unrolled u) (lits u x) (lits u y) between.kept between.in_closure closed
 
 -- what was forced is added, where its words are joined into the blocks
-pub forced-added : (u : Unrolling) (s : Sig) (chunk : ℕ) → chunk < chunks_in u → (seen old new : PlaneSet) (places : List InChunk) (view out : List PinWord)
-    → AreForced u seen s chunk places view out → JoinsFirst (map (block_in u) places) out (length places) old new → AddsForced u (task_at u s chunk) seen old new
-forced-added u s chunk early seen old new places view out are joins =
-    let size : length places ≡ length (blocks_from u s chunk) = sym (length-map places (block_in u)) ∙ ap length are.places_are in
-    adds-forced u are.problem (task_at u s chunk) seen old new (blocks_from u s chunk) view out (sym (blocks-at u s chunk early)) are.view_is are.exact
-    (subst (λ n. JoinsFirst (blocks_from u s chunk) out n old new) size (subst (λ bs. JoinsFirst bs out (length places) old new) are.places_are joins))
+pub forced-added : (u : Unrolling) (task : InChunk) → task.chunk < chunks_in u → (seen old new : PlaneSet) (in_chunks : List InChunk) (out : List PinWord)
+    → AreForced u seen task in_chunks out → JoinsFirst (map (block_in u) in_chunks) out (length in_chunks) old new → AddsForced u (task_in u task) seen old new
+forced-added u task early seen old new in_chunks out are joins =
+    adds-forced u are.problem (task_in u task) seen old new (map (block_in u) in_chunks) out (are.blocks_are ∙ sym (blocks-at u task.sig task.chunk early)) are.exact
+    (subst (λ n. JoinsFirst (map (block_in u) in_chunks) out n old new) (sym (length-map in_chunks (block_in u))) joins)

@@ -117,15 +117,15 @@ module _ (rows : List (List Sig)) (chunk : ℕ) (s : Sig) (rest : List Sig) (wit
       let one : length (s ∷ rest) ≡ length rest + 1 = omega arith in
       omega (arith, sums, size, one)
 
--- two flags at one place are one task's
+-- two flags at one index are one task's
 same-task : (signals : ℕ) (s x : Sig) (chunk c : ℕ) → s.0 < signals → x.0 < signals → c * signals + x.0 ≡ chunk * signals + s.0 → (x ≡ s) × (c ≡ chunk)
 same-task signals s x chunk c hs hx e =
     let same : (c ≡ chunk) × (x.0 ≡ s.0) = same_from_place c x.0 chunk s.0 signals hx hs e in
     (ap (λ n. record { 0 = n }) same.1, same.0)
 
 module _ (signals : ℕ) (rows : List (List Sig)) (flags : List Bool) (chunk : ℕ) (s : Sig) (within : chunk < length rows) (signal : s.0 < signals) (f : IsFlagged signals rows flags) where
-  pub place-within : chunk * signals + s.0 < length flags
-  place-within = subst (λ n. chunk * signals + s.0 < n) (swap signals (length rows) ∙ sym f.size) (mul-add-lt chunk signals s.0 (length rows) within signal)
+  pub flag-within : chunk * signals + s.0 < length flags
+  flag-within = subst (λ n. chunk * signals + s.0 < n) (swap signals (length rows) ∙ sym f.size) (mul-add-lt chunk signals s.0 (length rows) within signal)
     where
       swap : (a b : ℕ) → a * b ≡ b * a
       swap a b = grind arith
@@ -163,7 +163,7 @@ module _ (signals : ℕ) (rows : List (List Sig)) (flags : List Bool) (chunk : �
     waits = λ x c hx on. elim (cases_eq (c * signals + x.0) (chunk * signals + s.0)) [
       | inl same ↦
           let off : get_or (set flags (chunk * signals + s.0) false) (chunk * signals + s.0) false ≡ false =
-          get_or-set_same flags (chunk * signals + s.0) false false (place-within signals rows flags chunk s within popped-within f) in
+          get_or-set_same flags (chunk * signals + s.0) false false (flag-within signals rows flags chunk s within popped-within f) in
           absurd (true≢false (sym on ∙ ap (λ n. get_or (set flags (chunk * signals + s.0) false) n false) same ∙ off))
       | inr other ↦
           let before : flag_at signals flags x c ≡ true = sym (get_or-set_other flags (chunk * signals + s.0) (c * signals + x.0) false false other) ∙ on in
@@ -204,10 +204,10 @@ module _ {Q : Type 0} (items : Q → List Sig) (queues : List Q) (chunk : ℕ) (
     pub same-invariant : items new ≡ items old → IsFlagged signals (map items (set queues chunk new)) flags × (current ≤ length (set queues chunk new))
     same-invariant is = (subst (λ rows. IsFlagged signals rows flags) (sym (same-rows is)) inv.0, size-kept current inv.1)
 
-    pub push-invariant : (s : Sig) (place : ℕ) → items new ≡ items old ++ s ∷ [] → s.0 < signals → place ≡ chunk * signals + s.0
-        → IsFlagged signals (map items (set queues chunk new)) (set flags place true) × (current ≤ length (set queues chunk new))
-    push-invariant s place is signal place_is = (
-      subst (λ n. IsFlagged signals (map items (set queues chunk new)) (set flags n true)) (sym place_is)
+    pub push-invariant : (s : Sig) (index : ℕ) → items new ≡ items old ++ s ∷ [] → s.0 < signals → index ≡ chunk * signals + s.0
+        → IsFlagged signals (map items (set queues chunk new)) (set flags index true) × (current ≤ length (set queues chunk new))
+    push-invariant s index is signal index_is = (
+      subst (λ n. IsFlagged signals (map items (set queues chunk new)) (set flags n true)) (sym index_is)
           (subst (λ rows. IsFlagged signals rows (set flags (chunk * signals + s.0) true)) (sym (pushed-rows s is))
           (push-flagged signals (map items queues) flags chunk s rows-within signal inv.0)),
       size-kept current inv.1,
@@ -239,8 +239,8 @@ module _ {Q : Type 0} (items : Q → List Sig) (queues : List Q) (signals : ℕ)
   pub signal-within : (s : Sig) → s.0 < q.signals → s.0 < signals
   signal-within s h = subst (λ (w : Waiting). s.0 < w.signals) (sym view) h
 
-  pub place-is : (place chunk : ℕ) (s : Sig) → place ≡ chunk * q.signals + s.0 → place ≡ chunk * signals + s.0
-  place-is place chunk s h = subst (λ (w : Waiting). place ≡ chunk * w.signals + s.0) (sym view) h
+  pub flag_index-is : (index chunk : ℕ) (s : Sig) → index ≡ chunk * q.signals + s.0 → index ≡ chunk * signals + s.0
+  flag_index-is index chunk s h = subst (λ (w : Waiting). index ≡ chunk * w.signals + s.0) (sym view) h
 
 -- the first of a queue is taken
 module _ {Q : Type 0} (items : Q → List Sig) (queues : List Q) (signals : ℕ) (flags : List Bool) (current : ℕ) (inv : IsFlagged signals (map items queues) flags × (current ≤ length queues))
@@ -268,14 +268,14 @@ module _ {Q : Type 0} (items : Q → List Sig) (queues : List Q) (signals : ℕ)
     unfolding rows-popped
     popped = map-set items queues chunk new
 
-    pub pop-place : (place : ℕ) → place ≡ chunk * q.signals + s.0 → place < length flags
-    pop-place place is =
-        subst (λ n. n < length flags) (sym (place-is items queues signals q view place chunk s is))
-        (place-within signals (map items queues) flags chunk s (row-within (map items queues) chunk s first-waits) (inv.0.within s chunk first-waits) inv.0)
+    pub pop-index : (index : ℕ) → index ≡ chunk * q.signals + s.0 → index < length flags
+    pop-index index is =
+        subst (λ n. n < length flags) (sym (flag_index-is items queues signals q view index chunk s is))
+        (flag-within signals (map items queues) flags chunk s (row-within (map items queues) chunk s first-waits) (inv.0.within s chunk first-waits) inv.0)
 
-    pub pop-invariant : (place : ℕ) → place ≡ chunk * q.signals + s.0 → IsFlagged signals (map items (set queues chunk new)) (set flags place false) × (current ≤ length (set queues chunk new))
-    pop-invariant place is = (
-      subst (λ n. IsFlagged signals (map items (set queues chunk new)) (set flags n false)) (sym (place-is items queues signals q view place chunk s is))
+    pub pop-invariant : (index : ℕ) → index ≡ chunk * q.signals + s.0 → IsFlagged signals (map items (set queues chunk new)) (set flags index false) × (current ≤ length (set queues chunk new))
+    pop-invariant index is = (
+      subst (λ n. IsFlagged signals (map items (set queues chunk new)) (set flags n false)) (sym (flag_index-is items queues signals q view index chunk s is))
           (subst (λ rows. IsFlagged signals rows (set flags (chunk * signals + s.0) false)) (sym popped)
           (pop-flagged signals (map items queues) flags chunk s (items new) (row-within (map items queues) chunk s first-waits) rows-is inv.0)),
       subst (λ n. current ≤ n) (sym (length-set queues chunk new)) inv.1,

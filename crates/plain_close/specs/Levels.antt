@@ -3,14 +3,15 @@ use Rattle.std.specs.Prelude.{ℕ, ◌≡◌, ◌≢◌, ◌<◌, ◌≤◌, ◌
 use Rattle.std.specs.List.{All, AllPairs, Contains}
 use Rattle.sr_model.specs.declared.cells.Cell.{Cell}
 use Rattle.sr_model.specs.declared.cells.Lit.{Lit}
+use Rattle.sr_model.specs.Limits.{max_gate_signals}
 use Rattle.sr_model.specs.Closure.{ForcesSomewhere, HasBoth, SameLits}
 use Rattle.unroll.specs.declared.problem.Block.{Block}
-use Rattle.unroll.specs.Problem.{Unrolling, IsProblem, unrolled, block_of}
-use Rattle.known_planes.specs.Planes.{PlaneSet, IsOf, has, lits, words_at}
+use Rattle.unroll.specs.Problem.{Unrolling, IsProblem, unrolled, block_of, IsInside, block_in}
+use Rattle.known_planes.specs.Planes.{PlaneSet, IsOf, has, lits, words_at, has_bit}
 use Rattle.known_planes.specs.Counts.{literal_count}
-use Rattle.plain_close.specs.declared.task_queues.InChunk.{InChunk}
 use Rattle.plain_close.specs.declared.levels.Level.{Level}
-use Rattle.plain_close.specs.Turns.{AreTasksOf, IsSettled, IsInside, block_in, has_bit}
+use Rattle.plain_close.specs.Turns.{AreTasksOf, IsSettled}
+use Rattle.unroll.specs.declared.problem.InChunk.{InChunk}
 
 -- The next planes have what the others have. Each block in which their words differ is noted, once, and in each block that is noted they have a literal more.
 pub record IsNoted (u : Unrolling) (planes next : PlaneSet) (changed : List InChunk) : Type 0 where
@@ -30,7 +31,7 @@ pub record IsLevel (u : Unrolling) (at : Level) : Type 0 where
   pub are_tasks : AreTasksOf u at.queues
   pub settled : IsSettled u at.planes at.queues
   pub no_clash : IsFalse at.may_clash → (c : Cell) → HasBoth (lits u at.planes) c → ⊥
-  pub room : 1025 ≤ at.buffers.blocks.room
+  pub room : max_gate_signals ≤ at.buffers.blocks.room
 
 -- the next level: all that this one forces, and that is at least one literal more
 pub record IsNext (u : Unrolling) (this next : Level) : Type 0 where

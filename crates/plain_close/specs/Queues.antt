@@ -2,6 +2,7 @@
 use Rattle.std.specs.Prelude.{ℕ, ◌≡◌, ◌<◌, ◌≤◌, ◌*◌, ◌+◌, Bool, true, false, List, [], ◌∷◌, length, slice_index_or}
 use Rattle.std.specs.List.{Contains, sum_by}
 use Rattle.sr_model.specs.declared.cells.Sig.{Sig}
+use Rattle.sr_model.specs.Limits.{chunk_count, max_cycles, max_signals}
 
 -- what contracts see of the queues: over how many signals they are, and the targets that wait in each chunk
 pub record Waiting : Type 0 where
@@ -30,8 +31,8 @@ flag_at signals flags target chunk = slice_index_or flags (chunk * signals + tar
 
 -- there is a flag for each signal and chunk, and a task whose flag is set waits
 pub record IsFlagged (signals : ℕ) (rows : List (List Sig)) (flags : List Bool) : Type 0 where
-  pub few_signals : signals ≤ 65536
-  pub few_chunks : length rows ≤ 128
+  pub few_signals : signals ≤ max_signals
+  pub few_chunks : length rows ≤ chunk_count max_cycles
   pub size : length flags ≡ length rows * signals
   pub within : (s : Sig) (chunk : ℕ) → Contains (row_at rows chunk) s → s.0 < signals
   pub waits : (s : Sig) (chunk : ℕ) → s.0 < signals → flag_at signals flags s chunk ≡ true → Contains (row_at rows chunk) s

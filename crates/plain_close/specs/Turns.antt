@@ -1,35 +1,29 @@
 -- What turns of tasks make of planes and of the tasks that wait.
-use Rattle.std.specs.Prelude.{ℕ, ◌≡◌, ◌+◌, ◌-◌, ◌^◌, ◌<◌, ◌≤◌, ◌⊎◌, ◌&&◌, ◌||◌, ◌++◌, ◌∷◌, [], Bool, true, false, nat_lt, if◌then◌else◌, IsTrue, IsFalse, List, length, map, slice_index_or}
-use Rattle.std.specs.List.{All, Contains, sum_by}
-use Rattle.sr_model.specs.declared.gates.Kind.TheVariants.{Dff}
+use Rattle.std.specs.Prelude.{ℕ, ◌≡◌, ◌*◌, ◌+◌, ◌-◌, ◌<◌, ◌≤◌, ◌⊎◌, ◌&&◌, ◌||◌, ◌++◌, ◌∷◌, [], Bool, true, false, nat_lt, if◌then◌else◌, IsTrue, IsFalse, List, length, map, slice_index_or}
+use Rattle.std.specs.List.{All, Contains}
 use Rattle.sr_model.specs.declared.cells.Sig.{Sig}
 use Rattle.sr_model.specs.declared.cells.Cell.{Cell}
 use Rattle.sr_model.specs.declared.cells.Lit.{Lit}
 use Rattle.sr_model.specs.Closure.{Closure, IsWithin, lit}
 use Rattle.sr_model.specs.Netlist.{Driver, Input, Driven}
-use Rattle.netlist.specs.Wiring.{driver_at, is_driven, reads, other_readers}
+use Rattle.netlist.specs.Wiring.{driver_at, is_flip_flop, reads, other_readers}
 use Rattle.unroll.specs.declared.problem.Block.{Block}
 use Rattle.unroll.specs.declared.problem.Task.{Task}
 use Rattle.unroll.specs.declared.words.PinWord.{PinWord}
 use Rattle.unroll.specs.Bits.{is_set, word_for}
-use Rattle.unroll.specs.Problem.{Unrolling, IsProblem, HaveNoLaterBit, unrolled, signals_in, chunks_in, block_at}
-use Rattle.unroll.specs.Tasks.{IsTask, IsCellOf, task_at, target_of, chunk_of, blocks_from}
-use Rattle.gate_rules.specs.Forced.{ForcedIn, IsDone, IsForcedExactly, bit_at_place}
-use Rattle.known_planes.specs.Planes.{PlaneSet, has, lits, words_at, IsOf}
-use Rattle.plain_close.specs.declared.task_queues.InChunk.{InChunk}
+use Rattle.unroll.specs.Problem.{Unrolling, IsProblem, IsInside, HaveNoLaterBit, unrolled, signals_in, chunks_in, blocks_in, block_at, block_in}
+use Rattle.unroll.specs.Tasks.{IsTask, IsTaskAt, IsCellOf, task_at, task_in, target_of, chunk_of, blocks_from}
+use Rattle.gate_rules.specs.Forced.{AreForcedBy, ForcedIn, IsDone, bit_at_place}
+use Rattle.known_planes.specs.Counts.{literal_count}
+use Rattle.known_planes.specs.Planes.{PlaneSet, IsOf, has, has_bit, lits, words_at}
 use Rattle.plain_close.specs.Queues.{Waiting, Waits, IsFirst}
-
--- a gate or flip-flop drives the signal, and there is the chunk
-pub record IsTaskAt (u : Unrolling) (target : Sig) (chunk : ℕ) : Type 0 where
-  pub signal : target.0 < signals_in u
-  pub early : chunk < chunks_in u
-  pub driven : is_driven (driver_at u.circuit.drivers target.0) ≡ true
+use Rattle.unroll.specs.declared.problem.InChunk.{InChunk}
 
 -- the queues are over the problem's signals and chunks, and what waits there are tasks
 pub record AreTasksOf (u : Unrolling) (q : Waiting) : Type 0 where
   pub signals : q.signals ≡ signals_in u
   pub chunks : length q.rows ≡ chunks_in u
-  pub tasks : (s : Sig) (chunk : ℕ) → Waits q s chunk → IsTaskAt u s chunk
+  pub tasks : (s : Sig) (chunk : ℕ) → Waits q s chunk → IsTaskAt u (record { sig = s; chunk = chunk })
 
 abbrev pub TaskWaits : Unrolling → Waiting → Task → Type 0
 TaskWaits u q t = Waits q (target_of u t) (chunk_of u t)
@@ -55,20 +49,16 @@ chunk_woken u driver s chunk fresh = if nat_lt 1 fresh || reads driver s then ta
 -- the tasks of a signal itself that they are in
 abbrev pub own_woken : Unrolling → Driver → Sig → ℕ → ℕ → List Task
 own_woken u Input s chunk fresh = []
-own_woken u (Driven Dff pins) s chunk fresh = before_woken u s chunk fresh ++ chunk_woken u (Driven Dff pins) s chunk fresh
-own_woken u (Driven _ pins) s chunk fresh = task_at u s chunk ∷ []
+own_woken u (Driven kind pins) s chunk fresh =
+    if is_flip_flop (Driven kind pins) then before_woken u s chunk fresh ++ chunk_woken u (Driven kind pins) s chunk fresh else task_at u s chunk ∷ []
 
 -- all tasks that they are in
 abbrev pub woken_from : Unrolling → Sig → ℕ → ℕ → List Task
 woken_from u s chunk fresh = own_woken u (driver_at u.circuit.drivers s.0) s chunk fresh ++ map (λ r. task_at u r chunk) (other_readers u.circuit.drivers s)
 
--- whether the planes have a bit of a block
-abbrev pub has_bit : PlaneSet → Block → Bool → ℕ → Bool
-has_bit planes b bit i = is_set (word_for bit (words_at planes b)) i
-
--- how far all words are from being full, by their numbers
-abbrev pub missing_of : PlaneSet → ℕ
-missing_of planes = sum_by (λ w. 2 ^ 64 - w.zero + (2 ^ 64 - w.one)) planes.words
+-- how many literals the planes may gain at most
+abbrev pub missing_of : Unrolling → PlaneSet → ℕ
+missing_of u planes = 128 * blocks_in u - literal_count u planes
 
 -- nothing is lost, and each task with a cell whose literals changed waits
 pub record Wakes (u : Unrolling) (old new : PlaneSet) (before after : Waiting) : Type 0 where
@@ -79,41 +69,28 @@ pub record Wakes (u : Unrolling) (old new : PlaneSet) (before after : Waiting) :
   pub first : (s : Sig) (chunk : ℕ) → IsFirst before s chunk → IsFirst after s chunk
   pub woken : (t : Task) → TaskWaits u after t ⊎ ((c : Cell) (bit : Bool) → IsCellOf u t c → has u new (lit c bit) ≡ has u old (lit c bit))
 
--- nothing changed, or the words are nearer to being full
-pub record Falls (added : Bool) (old new : PlaneSet) (before after : Waiting) : Type 0 where
-  pub no_more : missing_of new ≤ missing_of old
-  pub fewer : IsTrue added → missing_of new < missing_of old
+-- nothing changed, or there is a literal more
+pub record Falls (u : Unrolling) (added : Bool) (old new : PlaneSet) (before after : Waiting) : Type 0 where
+  pub no_more : missing_of u new ≤ missing_of u old
+  pub fewer : IsTrue added → missing_of u new < missing_of u old
   pub same : IsFalse added → (new ≡ old) × (after ≡ before)
-
--- the bits of the words are in the block, and no others are new
-pub record Joins (b : Block) (w : PinWord) (old new : PlaneSet) : Type 0 where
-  pub joined : (bit : Bool) (i : ℕ) → is_set (word_for bit w) i ≡ true → has_bit new b bit i ≡ true
-  pub only : (a : Block) (bit : Bool) (i : ℕ) → has_bit new a bit i ≡ true → (has_bit old a bit i ≡ true) ⊎ ((a ≡ b) × (is_set (word_for bit w) i ≡ true))
 
 -- a bit of the words that stand beside one of the first n blocks
 pub record IsAmong (blocks : List Block) (words : List PinWord) (n : ℕ) (b : Block) (bit : Bool) (i : ℕ) : Type 0 where
-  pub place : ℕ
-  pub first : place < n
-  pub block : slice_index_or blocks place (record { 0 = 0 }) ≡ b
-  pub set : bit_at_place words place bit i ≡ true
+  pub index : ℕ
+  pub first : index < n
+  pub block : slice_index_or blocks index (record { 0 = 0 }) ≡ b
+  pub set : bit_at_place words index bit i ≡ true
 
 -- those are in their blocks, and no others are new
 pub record JoinsFirst (blocks : List Block) (words : List PinWord) (n : ℕ) (old new : PlaneSet) : Type 0 where
   pub joined : (b : Block) (bit : Bool) (i : ℕ) → IsAmong blocks words n b bit i → has_bit new b bit i ≡ true
   pub only : (b : Block) (bit : Bool) (i : ℕ) → has_bit new b bit i ≡ true → (has_bit old b bit i ≡ true) ⊎ IsAmong blocks words n b bit i
 
--- the block of a signal in a chunk
-abbrev pub block_in : Unrolling → InChunk → Block
-block_in u at = block_at u at.sig at.chunk
-
--- it is there
-abbrev pub IsInside : Unrolling → InChunk → Type 0
-IsInside u at = (at.sig.0 < signals_in u) × (at.chunk < chunks_in u)
-
--- what a turn has of its task's blocks: where they lie, their words, and room for what is forced
-pub record Sees (u : Unrolling) (planes : PlaneSet) (blocks : List Block) (places : List InChunk) (view out : List PinWord) : Type 0 where
-  pub inside : All (IsInside u) places
-  pub places_are : map (block_in u) places ≡ blocks
+-- what a turn has of its task's blocks: their signals and chunks, their words, and room for what is forced
+pub record Sees (u : Unrolling) (planes : PlaneSet) (blocks : List Block) (in_chunks : List InChunk) (view out : List PinWord) : Type 0 where
+  pub inside : All (IsInside u) in_chunks
+  pub blocks_are : map (block_in u) in_chunks ≡ blocks
   pub view_is : view ≡ map (words_at planes) blocks
   pub out_size : length out ≡ length blocks
 
@@ -121,15 +98,14 @@ pub record Sees (u : Unrolling) (planes : PlaneSet) (blocks : List Block) (place
 abbrev pub HaveNoClash : PlaneSet → List Block → Type 0
 HaveNoClash planes blocks = (b : Block) (i : ℕ) → Contains blocks b → has_bit planes b false i ≡ true → has_bit planes b true i ≡ true → ⊥
 
--- what the buffers have once a task was seen: where its blocks lie, their words, and what it forces there
-pub record AreForced (u : Unrolling) (planes : PlaneSet) (target : Sig) (chunk : ℕ) (places : List InChunk) (view out : List PinWord) : Type 0 where
+-- what the buffers have once a task was seen: the signals and chunks of its blocks, and what the planes force there
+pub record AreForced (u : Unrolling) (planes : PlaneSet) (task : InChunk) (in_chunks : List InChunk) (out : List PinWord) : Type 0 where
   pub problem : IsProblem u
-  pub inside : All (IsInside u) places
-  pub places_are : map (block_in u) places ≡ blocks_from u target chunk
-  pub view_is : view ≡ map (words_at planes) (blocks_from u target chunk)
-  pub out_size : length out ≡ length places
-  pub exact : IsForcedExactly u (task_at u target chunk) (blocks_from u target chunk) view out
-  pub later : HaveNoLaterBit u (map (block_in u) places) out
+  pub inside : All (IsInside u) in_chunks
+  pub blocks_are : map (block_in u) in_chunks ≡ blocks_from u task.sig task.chunk
+  pub out_size : length out ≡ length in_chunks
+  pub exact : AreForcedBy u (task_in u task) (map (block_in u) in_chunks) (has u planes) out
+  pub later : HaveNoLaterBit u (map (block_in u) in_chunks) out
 
 -- what a task forces from the seen literals is added, and nothing else
 pub record AddsForced (u : Unrolling) (t : Task) (seen old new : PlaneSet) : Type 0 where
@@ -147,10 +123,10 @@ pub record Between (u : Unrolling) (old new : PlaneSet) (after : Waiting) : Type
   pub settled : IsSettled u new after
   pub kept : IsWithin (lits u old) (lits u new)
   pub in_closure : IsWithin (lits u new) (Closure (unrolled u) (lits u old))
-  pub no_more : missing_of new ≤ missing_of old
+  pub no_more : missing_of u new ≤ missing_of u old
 
 -- the other planes' bits of the first signals in a chunk are there, and no others are new than theirs
-pub record AddsRow (u : Unrolling) (other : PlaneSet) (chunk signals : ℕ) (old new : PlaneSet) : Type 0 where
+pub record AddsChunk (u : Unrolling) (other : PlaneSet) (chunk signals : ℕ) (old new : PlaneSet) : Type 0 where
   pub joined : (s : Sig) (bit : Bool) (i : ℕ) → s.0 < signals → has_bit other (block_at u s chunk) bit i ≡ true → has_bit new (block_at u s chunk) bit i ≡ true
   pub only : (b : Block) (bit : Bool) (i : ℕ) → has_bit new b bit i ≡ true → (has_bit old b bit i ≡ true) ⊎ (has_bit other b bit i ≡ true)
 

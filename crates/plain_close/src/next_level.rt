@@ -1,21 +1,22 @@
 //! From a level to the next one: all that its tasks force from it is joined into other planes, and the blocks that change are then taken over.
 ghost use Rattle.std.specs.Prelude.{ℕ, ◌≡◌, ◌<◌, ◌≤◌, ◌⊎◌, [], All, Bool, true, IsTrue, IsFalse, IfOk, OnOk, length, map};
 ghost use Rattle.sr_model.specs.declared.cells.Sig.{Sig as AnySig};
+ghost use Rattle.sr_model.specs.Limits.{max_gate_signals};
 ghost use Rattle.sr_model.specs.Closure.{ForcesSomewhere, SameLits};
 ghost use Rattle.unroll.specs.declared.problem.Block.{Block as AnyBlock};
-ghost use Rattle.unroll.specs.Problem.{HaveNoLaterBit, unrolled, HasNoLaterBit};
-ghost use Rattle.unroll.specs.Tasks.{task_at};
-ghost use Rattle.known_planes.specs.Planes.{IsOf, lits, words_at};
+ghost use Rattle.unroll.specs.Problem.{HaveNoLaterBit, unrolled, HasNoLaterBit, IsInside, block_in};
+ghost use Rattle.unroll.specs.Tasks.{task_in, IsTaskAt};
+ghost use Rattle.known_planes.specs.Planes.{IsOf, lits, words_at, Joins, has_bit};
 ghost use Rattle.plain_close.specs.Queues.{Waits};
-ghost use Rattle.plain_close.specs.Turns.{IsTaskAt, AreTasksOf, IsInside, IsSettled, Wakes, Joins, JoinsFirst, AddsForced, HaveNoClash, block_in, has_bit};
+ghost use Rattle.plain_close.specs.Turns.{AreTasksOf, IsSettled, Wakes, JoinsFirst, AddsForced, HaveNoClash};
 ghost use Rattle.plain_close.specs.Levels.{IsNoted};
 
-use crate::task_queues::{InChunk, TaskQueues};
-use crate::turns::{Buffers, force, join, union};
+use crate::task_queues::TaskQueues;
+use crate::turns::{Buffers, force, join};
 use known_planes::Planes;
 use sr_model::{NoMemory, Sequence};
 use std::alloc::Global;
-use unroll::{PinWord, PinWords, Problem};
+use unroll::{InChunk, PinWord, PinWords, Problem};
 
 /// The planes of the next level, and the blocks in which they have more than those of this one, each once.
 #[derive(Drop)]
@@ -63,7 +64,7 @@ pub(crate) fn force_waiting(
     requires of { IsOf p.now planes.now }
     requires are_tasks { AreTasksOf p.now queues.old }
     requires settled { IsSettled p.now planes.now queues.old }
-    requires room { 1025 ≤ buffers.old.blocks.room }
+    requires room { max_gate_signals ≤ buffers.old.blocks.room }
     requires same { (b : AnyBlock) → words_at next.old.planes b ≡ words_at planes.now b }
     requires noted { IsNoted p.now planes.now next.old.planes next.old.changed.items }
     ensures room { buffers.old.blocks.room ≤ buffers.new.blocks.room }
@@ -88,44 +89,44 @@ fn force_task(
     next: &mut NextLevel,
 ) -> Result<(), NoMemory>
     requires of { IsOf p.now planes.now }
-    requires task { IsTaskAt p.now task.sig task.chunk }
-    requires room { 1025 ≤ buffers.old.blocks.room }
+    requires task { IsTaskAt p.now task }
+    requires room { max_gate_signals ≤ buffers.old.blocks.room }
     requires noted { IsNoted p.now planes.now next.old.planes next.old.changed.items }
     ensures room { buffers.old.blocks.room ≤ buffers.new.blocks.room }
     ensures noted { OnOk result (IsNoted p.now planes.now next.new.planes next.new.changed.items) }
     ensures bits { OnOk result ((b : AnyBlock) (bit : Bool) (i : ℕ) → has_bit next.old.planes b bit i ≡ true → has_bit next.new.planes b bit i ≡ true) }
-    ensures adds { OnOk result (AddsForced p.now (task_at p.now task.sig task.chunk) planes.now next.old.planes next.new.planes) }
+    ensures adds { OnOk result (AddsForced p.now (task_in p.now task) planes.now next.old.planes next.new.planes) }
 {
     force(p, task, planes, buffers)?;
-    join_forced(p, planes, &buffers.places, &buffers.out, next)
+    join_forced(p, planes, &buffers.in_chunks, &buffers.out, next)
 }
 
 /// Joins what is forced in these blocks into the next level.
 fn join_forced(
     p: &Problem,
     planes: &Planes,
-    places: &Sequence<InChunk>,
+    in_chunks: &Sequence<InChunk>,
     out: &PinWords,
     next: &mut NextLevel,
 ) -> Result<(), NoMemory>
     requires of { IsOf p.now planes.now }
-    requires inside { All (IsInside p.now) places.now.items }
-    requires out { length out.now.items ≡ length places.now.items }
-    requires later { HaveNoLaterBit p.now (map (block_in p.now) places.now.items) out.now.items }
+    requires inside { All (IsInside p.now) in_chunks.now.items }
+    requires out { length out.now.items ≡ length in_chunks.now.items }
+    requires later { HaveNoLaterBit p.now (map (block_in p.now) in_chunks.now.items) out.now.items }
     requires noted { IsNoted p.now planes.now next.old.planes next.old.changed.items }
     ensures noted { OnOk result (IsNoted p.now planes.now next.new.planes next.new.changed.items) }
     ensures bits { OnOk result ((b : AnyBlock) (bit : Bool) (i : ℕ) → has_bit next.old.planes b bit i ≡ true → has_bit next.new.planes b bit i ≡ true) }
-    ensures joins { OnOk result (JoinsFirst (map (block_in p.now) places.now.items) out.now.items (length places.now.items) next.old.planes next.new.planes) }
+    ensures joins { OnOk result (JoinsFirst (map (block_in p.now) in_chunks.now.items) out.now.items (length in_chunks.now.items) next.old.planes next.new.planes) }
 {
-    for place in 0..places.len() {
-        let at = places.as_slice()[place];
-        join_fresh(p, planes, at, out.as_slice()[place], next)?;
+    for index in 0..in_chunks.len() {
+        let at = in_chunks.as_slice()[index];
+        join_fresh(p, planes, at, out.as_slice()[index], next)?;
     }
     Ok(())
 }
 
-/// Joins words into a block of the next level, unless this level has all of their literals, as it mostly has. Its words were just read, and those of the next one lie
-/// apart from them.
+/// Joins words into a block of the next level, and notes it where that changes it for the first time; nothing is done where this level has all of their literals, as it
+/// mostly has. Its words were just read, and those of the next one lie apart from them.
 fn join_fresh(
     p: &Problem,
     planes: &Planes,
@@ -141,36 +142,12 @@ fn join_fresh(
     ensures bits { OnOk result ((b : AnyBlock) (bit : Bool) (i : ℕ) → has_bit next.old.planes b bit i ≡ true → has_bit next.new.planes b bit i ≡ true) }
     ensures joins { OnOk result (Joins (block_in p.now at) words next.old.planes next.new.planes) }
 {
-    let this = planes.word_in_chunk(p, at.sig, at.chunk);
-    if union(this, words) == this {
+    if planes.new_in_chunk(p, at, words) == 0 {
         return Ok(());
     }
-    join_noted(p, planes, at, words, next)
-}
-
-/// Joins words into a block of the next level, and notes it where that changes it for the first time.
-fn join_noted(
-    p: &Problem,
-    planes: &Planes,
-    at: InChunk,
-    words: PinWord,
-    next: &mut NextLevel,
-) -> Result<(), NoMemory>
-    requires of { IsOf p.now planes.now }
-    requires inside { IsInside p.now at }
-    requires no_later { HasNoLaterBit p.now.cycles at.chunk words }
-    requires noted { IsNoted p.now planes.now next.old.planes next.old.changed.items }
-    ensures noted { OnOk result (IsNoted p.now planes.now next.new.planes next.new.changed.items) }
-    ensures bits { OnOk result ((b : AnyBlock) (bit : Bool) (i : ℕ) → has_bit next.old.planes b bit i ≡ true → has_bit next.new.planes b bit i ≡ true) }
-    ensures joins { OnOk result (Joins (block_in p.now at) words next.old.planes next.new.planes) }
-{
-    let old = next.planes.word_in_chunk(p, at.sig, at.chunk);
-    let new = union(old, words);
-    if new == old {
-        return Ok(());
-    }
-    next.planes.set_in_chunk(p, at.sig, at.chunk, new);
-    if old == planes.word_in_chunk(p, at.sig, at.chunk) {
+    let first = next.planes.word_in_chunk(p, at) == planes.word_in_chunk(p, at);
+    next.planes.add_in_chunk(p, at, words);
+    if first {
         next.changed.push(at)?;
     }
     Ok(())
@@ -192,9 +169,9 @@ pub(crate) fn take_changed(
 {
     let mut has_both = false;
     for at in next.changed.as_slice() {
-        let words = next.planes.word_in_chunk(p, at.sig, at.chunk);
-        join(p, planes, queues, at.sig, at.chunk, words)?;
-        has_both = has_both | (words.zero & words.one != 0);
+        let words = next.planes.word_in_chunk(p, *at);
+        join(p, planes, queues, *at, words)?;
+        has_both = has_both | (words.both() != 0);
     }
     Ok(has_both)
 }

@@ -5,7 +5,7 @@ ghost use Rattle.sr_model.specs.Closure.{Closure, HasBoth, IsWithin, SameLits};
 ghost use Rattle.unroll.specs.Problem.{IsProblem, unrolled, signals_in, chunks_in};
 ghost use Rattle.known_planes.specs.Planes.{IsOf, lits};
 ghost use Rattle.unroll.specs.Tasks.{constant_tasks};
-ghost use Rattle.plain_close.specs.Turns.{AreTasksOf, IsSettled, Pushed, Wakes, Adds, AddsRow};
+ghost use Rattle.plain_close.specs.Turns.{AreTasksOf, IsSettled, Pushed, Wakes, Adds, AddsChunk};
 
 use crate::task_queues::TaskQueues;
 use crate::turns::{Buffers, join, push_task, turn_all, turn_until_clash};
@@ -13,7 +13,7 @@ use known_planes::{Closer, Planes};
 use sr_model::{NoMemory, Sig};
 use std::alloc::Global;
 use std::thread::Threads;
-use unroll::{Block, Problem};
+use unroll::{Block, InChunk, Problem};
 
 /// Closes by a list of the tasks whose blocks have changed, on one thread.
 ///
@@ -111,8 +111,7 @@ fn push_constants(alloc: Global, p: &Problem, queues: &mut TaskQueues) -> Result
 {
     let constant = p.constant_tasks(alloc)?;
     for task in constant.as_slice() {
-        let target = Block(task.0);
-        push_task(p, queues, p.sig_of(target), p.chunk_of(target))?;
+        push_task(p, queues, p.in_chunk(Block(task.0)))?;
     }
     Ok(())
 }
@@ -149,18 +148,12 @@ fn add_chunk(
     requires are_tasks { AreTasksOf p.now queues.old }
     requires chunk { chunk < chunks_in p.now }
     ensures wakes { OnOk result (Wakes p.now planes.old planes.new queues.old queues.new) }
-    ensures adds { OnOk result (AddsRow p.now added.now chunk (signals_in p.now) planes.old planes.new) }
+    ensures adds { OnOk result (AddsChunk p.now added.now chunk (signals_in p.now) planes.old planes.new) }
 {
     for number in 0..p.net().signals() {
         let sig = Sig(number);
-        join(
-            p,
-            planes,
-            queues,
-            sig,
-            chunk,
-            added.word_in_chunk(p, sig, chunk),
-        )?;
+        let at = InChunk { sig, chunk };
+        join(p, planes, queues, at, added.word_in_chunk(p, at))?;
     }
     Ok(())
 }

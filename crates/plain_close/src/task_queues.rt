@@ -1,19 +1,14 @@
 //! The tasks that wait to be done.
 ghost use Rattle.std.specs.Prelude.{ℕ, ◌≡◌, ◌+◌, ◌*◌, ◌<◌, ◌≤◌, ◌⊎◌, [], All, length, IfOk, IfSome, IsNone, OnOk};
 ghost use Rattle.sr_model.specs.declared.cells.Sig.{Sig as AnySig};
+ghost use Rattle.sr_model.specs.Limits.{chunk_count, max_cycles, max_signals};
 ghost use Rattle.plain_close.specs.Queues.{Waits, IsFirst, waiting_count, row_at};
 
 use sr_model::{NoMemory, Sig};
 use std::alloc::Global;
 use std::collections::VecDeque;
 use std::marker::Model;
-
-/// A signal in a chunk: its block, or the task of its gate or flip-flop.
-#[derive(Clone, Copy, Debug, PartialEq, Eq)]
-pub struct InChunk {
-    pub sig: Sig,
-    pub chunk: u32,
-}
+use unroll::InChunk;
 
 /// The tasks that wait: one queue for each chunk, and one flag for each task.
 ///
@@ -41,8 +36,8 @@ impl Model for TaskQueues {
 impl TaskQueues {
     /// No task waits. One flag is a byte for each signal and chunk.
     pub fn new(alloc: Global, signals: u32, chunks: u32) -> Result<TaskQueues, NoMemory>
-        requires signals { signals ≤ 65536 }
-        requires chunks { chunks ≤ 128 }
+        requires signals { signals ≤ max_signals }
+        requires chunks { chunks ≤ chunk_count max_cycles }
         ensures signals { IfOk result (λ q. q.signals ≡ signals) }
         ensures chunks { IfOk result (λ q. length q.rows ≡ chunks) }
         ensures none { IfOk result (λ q. (s : AnySig) (chunk : ℕ) → Waits q s chunk → ⊥) }
@@ -70,15 +65,15 @@ impl TaskQueues {
         ensures only { OnOk result ((s : AnySig) (c : ℕ) → Waits self.new s c → Waits self.old s c ⊎ ((s ≡ target) × (c ≡ chunk))) }
         ensures first { OnOk result ((s : AnySig) (c : ℕ) → IsFirst self.old s c → IsFirst self.new s c) }
     {
-        let place = self.place(target, chunk);
-        if self.flags[place] {
+        let index = self.flag_index(target, chunk);
+        if self.flags[index] {
             return Ok(());
         }
         match self.queues[chunk as usize].push_back(target) {
             Ok(()) => {}
             Err(_) => return Err(NoMemory),
         }
-        self.flags[place] = true;
+        self.flags[index] = true;
         Ok(())
     }
 
@@ -106,9 +101,9 @@ impl TaskQueues {
         ensures only { (s : AnySig) (c : ℕ) → Waits self.new s c → Waits self.old s c }
         ensures fewer { waiting_count self.new < waiting_count self.old }
     {
-        let place = self.place(task.sig, task.chunk);
+        let index = self.flag_index(task.sig, task.chunk);
         self.queues[task.chunk as usize].pop_front();
-        self.flags[place] = false;
+        self.flags[index] = false;
     }
 
     /// The first chunk with a task, from the current one on and then from the first one.
@@ -136,7 +131,7 @@ impl TaskQueues {
     }
 
     /// Where a task's flag stands.
-    fn place(&self, target: Sig, chunk: u32) -> usize
+    fn flag_index(&self, target: Sig, chunk: u32) -> usize
         requires target { target.0 < self.now.signals }
         requires chunk { chunk < length self.now.rows }
         ensures { result ≡ chunk * self.now.signals + target.0 }

@@ -1,44 +1,44 @@
 //! Turns of tasks: what a task forces is added, and the tasks about it wait again.
-ghost use Rattle.std.specs.Prelude.{ℕ, ◌≡◌, ◌+◌, ◌^◌, ◌<◌, ◌≤◌, ◌++◌, ◌∷◌, ◌⊎◌, [], Bool, true, false, length, map, IfOk, OnOk, IsFalse, IsTrue, All, List};
+ghost use Rattle.std.specs.Prelude.{ℕ, ◌≡◌, ◌+◌, ◌<◌, ◌≤◌, ◌++◌, ◌∷◌, ◌⊎◌, [], true, false, length, map, IfOk, OnOk, IsFalse, IsTrue, All, List};
 ghost use Rattle.sr_model.specs.declared.cells.Sig.{Sig as AnySig};
 ghost use Rattle.sr_model.specs.declared.cells.Cell.{Cell as AnyCell};
+ghost use Rattle.sr_model.specs.Limits.{max_gate_signals};
 ghost use Rattle.sr_model.specs.Closure.{Closure, HasBoth, IsWithin, SameLits, IsClosed};
 ghost use Rattle.netlist.specs.Wiring.{driver_at, is_flip_flop};
 ghost use Rattle.unroll.specs.declared.problem.Block.{Block as AnyBlock};
-ghost use Rattle.unroll.specs.Bits.{is_set, word_for};
-ghost use Rattle.unroll.specs.Problem.{HaveNoLaterBit, IsProblem, unrolled, signals_in, chunks_in, block_at, HasNoLaterBit};
-ghost use Rattle.unroll.specs.Tasks.{task_at, blocks_from, blocks_for, drives_itself, goes_on_from};
+ghost use Rattle.unroll.specs.Problem.{HasNoLaterBit, HaveNoLaterBit, IsInside, IsProblem, unrolled, signals_in, block_in};
+ghost use Rattle.unroll.specs.Tasks.{IsTaskAt, task_in, blocks_from, blocks_for, drives_itself};
 ghost use Rattle.gate_rules.specs.Forced.{IsDone};
-ghost use Rattle.known_planes.specs.Planes.{IsOf, has, lits, joined};
+ghost use Rattle.known_planes.specs.Planes.{IsOf, Joins, has, lits};
 ghost use Rattle.plain_close.specs.Queues.{Waits, IsFirst, waiting_count};
-ghost use Rattle.plain_close.specs.Turns.{IsTaskAt, AreTasksOf, IsSettled, IsInside, Pushed, Wakes, Falls, Joins, JoinsFirst, Sees, AreForced, Turns, Between, HaveNoClash, block_in, missing_of, before_woken, chunk_woken, own_woken, woken_from};
+ghost use Rattle.plain_close.specs.Turns.{AreTasksOf, IsSettled, Pushed, Wakes, Falls, JoinsFirst, Sees, AreForced, Turns, Between, HaveNoClash, missing_of, before_woken, chunk_woken, own_woken, woken_from};
 
-use crate::task_queues::{InChunk, TaskQueues};
+use crate::task_queues::TaskQueues;
 use gate_rules::forced_in_chunk;
 use known_planes::Planes;
-use sr_model::{Kind, NoMemory, Sequence, Sig};
+use sr_model::{MAX_GATE_SIGNALS, NoMemory, Sequence, Sig};
 use std::alloc::Global;
-use unroll::{Blocks, PinWord, PinWords, Problem};
+use unroll::{Blocks, InChunk, PinWord, PinWords, Problem};
 
-/// What a turn works on, with room for the blocks of any task: where they lie, their words, and what is forced there.
+/// What a turn works on, with room for the blocks of any task: their signals and chunks, their words, and what is forced there.
 #[derive(Drop)]
 pub struct Buffers {
     blocks: Blocks,
-    pub(crate) places: Sequence<InChunk>,
+    pub(crate) in_chunks: Sequence<InChunk>,
     view: PinWords,
     pub(crate) out: PinWords,
 }
 
 impl Buffers {
-    /// Room for the 1,025 blocks that a task has at most.
+    /// Room for the blocks that a task has at most.
     pub fn new(alloc: Global) -> Result<Buffers, NoMemory>
-        ensures { IfOk result (λ buffers. 1025 ≤ buffers.blocks.room) }
+        ensures { IfOk result (λ buffers. max_gate_signals ≤ buffers.blocks.room) }
     {
         Ok(Buffers {
-            blocks: Blocks::with_room(alloc, 1025)?,
-            places: Sequence::with_room(alloc, 1025)?,
-            view: PinWords::with_room(alloc, 1025)?,
-            out: PinWords::with_room(alloc, 1025)?,
+            blocks: Blocks::with_room(alloc, MAX_GATE_SIGNALS)?,
+            in_chunks: Sequence::with_room(alloc, MAX_GATE_SIGNALS)?,
+            view: PinWords::with_room(alloc, MAX_GATE_SIGNALS)?,
+            out: PinWords::with_room(alloc, MAX_GATE_SIGNALS)?,
         })
     }
 }
@@ -53,7 +53,7 @@ pub fn turn_all(
     requires of { IsOf p.now planes.old }
     requires are_tasks { AreTasksOf p.now queues.old }
     requires settled { IsSettled p.now planes.old queues.old }
-    requires room { 1025 ≤ buffers.old.blocks.room }
+    requires room { max_gate_signals ≤ buffers.old.blocks.room }
     ensures of { OnOk result (IsOf p.now planes.new) }
     ensures closure { OnOk result (SameLits (lits p.now planes.new) (Closure (unrolled p.now) (lits p.now planes.old))) }
 {
@@ -71,7 +71,7 @@ pub fn turn_until_clash(
     requires of { IsOf p.now planes.old }
     requires are_tasks { AreTasksOf p.now queues.old }
     requires settled { IsSettled p.now planes.old queues.old }
-    requires room { 1025 ≤ buffers.old.blocks.room }
+    requires room { max_gate_signals ≤ buffers.old.blocks.room }
     ensures of { OnOk result (IsOf p.now planes.new) }
     ensures above { OnOk result (IsWithin (lits p.now planes.old) (lits p.now planes.new)) }
     ensures within { OnOk result (IsWithin (lits p.now planes.new) (Closure (unrolled p.now) (lits p.now planes.old))) }
@@ -91,10 +91,10 @@ fn turn_to_next(
     requires of { IsOf p.now planes.old }
     requires are_tasks { AreTasksOf p.now queues.old }
     requires settled { IsSettled p.now planes.old queues.old }
-    requires room { 1025 ≤ buffers.old.blocks.room }
+    requires room { max_gate_signals ≤ buffers.old.blocks.room }
     ensures room { buffers.old.blocks.room ≤ buffers.new.blocks.room }
     ensures between { OnOk result (Between p.now planes.old planes.new queues.new) }
-    ensures fewer { IfOk result (λ turned. IsTrue turned.added → missing_of planes.new < missing_of planes.old) }
+    ensures fewer { IfOk result (λ turned. IsTrue turned.added → missing_of p.now planes.new < missing_of p.now planes.old) }
     ensures closed { IfOk result (λ turned. IsFalse turned.added → IsClosed (unrolled p.now) (lits p.now planes.new)) }
     ensures clash { IfOk result (λ turned. IsTrue turned.clash → (c : AnyCell) × HasBoth (lits p.now planes.new) c) }
 {
@@ -155,19 +155,19 @@ fn turn(
 ) -> Result<Turned, NoMemory>
     requires of { IsOf p.now planes.old }
     requires are_tasks { AreTasksOf p.now queues.old }
-    requires task { IsTaskAt p.now task.sig task.chunk }
-    requires room { 1025 ≤ buffers.old.blocks.room }
+    requires task { IsTaskAt p.now task }
+    requires room { max_gate_signals ≤ buffers.old.blocks.room }
     ensures room { buffers.old.blocks.room ≤ buffers.new.blocks.room }
     ensures wakes { OnOk result (Wakes p.now planes.old planes.new queues.old queues.new) }
-    ensures falls { IfOk result (λ turned. Falls turned.added planes.old planes.new queues.old queues.new) }
-    ensures turns { OnOk result (Turns p.now (task_at p.now task.sig task.chunk) planes.old planes.new) }
-    ensures done { IfOk result (λ turned. IsFalse turned.again → IsDone p.now (task_at p.now task.sig task.chunk) (has p.now planes.new)) }
+    ensures falls { IfOk result (λ turned. Falls p.now turned.added planes.old planes.new queues.old queues.new) }
+    ensures turns { OnOk result (Turns p.now (task_in p.now task) planes.old planes.new) }
+    ensures done { IfOk result (λ turned. IsFalse turned.again → IsDone p.now (task_in p.now task) (has p.now planes.new)) }
     ensures again { IfOk result (λ turned. IsFalse turned.added → IsFalse turned.again) }
     ensures clash { IfOk result (λ turned. IsTrue turned.clash → (c : AnyCell) × HasBoth (lits p.now planes.new) c) }
 {
     force(p, task, planes, buffers)?;
-    let added = join_all(p, planes, queues, &buffers.places, &buffers.out)?;
-    Ok(outcome(p, task, planes, &buffers.places, added))
+    let added = join_all(p, planes, queues, &buffers.in_chunks, &buffers.out)?;
+    Ok(outcome(p, task, planes, &buffers.in_chunks, added))
 }
 
 /// How a turn went. Its task may force more only where it added something, and one of its cells has both literals or its flip-flop drives itself.
@@ -175,15 +175,15 @@ fn outcome(
     p: &Problem,
     task: InChunk,
     planes: &Planes,
-    places: &Sequence<InChunk>,
+    in_chunks: &Sequence<InChunk>,
     added: bool,
 ) -> Turned
     requires of { IsOf p.now planes.now }
     requires signal { task.sig.0 < signals_in p.now }
-    requires inside { All (IsInside p.now) places.now.items }
+    requires inside { All (IsInside p.now) in_chunks.now.items }
     ensures added { result.added ≡ added }
     ensures other { IsFalse result.again → IsTrue added → drives_itself p.now task.sig ≡ false }
-    ensures none { IsFalse result.again → IsTrue added → HaveNoClash planes.now (map (block_in p.now) places.now.items) }
+    ensures none { IsFalse result.again → IsTrue added → HaveNoClash planes.now (map (block_in p.now) in_chunks.now.items) }
     ensures nothing { IsFalse added → IsFalse result.again }
     ensures clash { IsTrue result.clash → (c : AnyCell) × HasBoth (lits p.now planes.now) c }
 {
@@ -194,7 +194,7 @@ fn outcome(
             again: false,
         };
     }
-    let clash = have_clash(p, planes, places);
+    let clash = have_clash(p, planes, in_chunks);
     Turned {
         added: true,
         clash,
@@ -203,15 +203,14 @@ fn outcome(
 }
 
 /// Whether a cell of these blocks has both literals.
-fn have_clash(p: &Problem, planes: &Planes, places: &Sequence<InChunk>) -> bool
+fn have_clash(p: &Problem, planes: &Planes, in_chunks: &Sequence<InChunk>) -> bool
     requires of { IsOf p.now planes.now }
-    requires inside { All (IsInside p.now) places.now.items }
-    ensures none { IsFalse result → HaveNoClash planes.now (map (block_in p.now) places.now.items) }
+    requires inside { All (IsInside p.now) in_chunks.now.items }
+    ensures none { IsFalse result → HaveNoClash planes.now (map (block_in p.now) in_chunks.now.items) }
     ensures some { IsTrue result → (c : AnyCell) × HasBoth (lits p.now planes.now) c }
 {
-    for at in places.as_slice() {
-        let words = planes.word_in_chunk(p, at.sig, at.chunk);
-        if words.zero & words.one != 0 {
+    for at in in_chunks.as_slice() {
+        if planes.word_in_chunk(p, *at).both() != 0 {
             return true;
         }
     }
@@ -223,8 +222,7 @@ fn drives_itself(p: &Problem, sig: Sig) -> bool
     requires signal { sig.0 < signals_in p.now }
     ensures { result ≡ drives_itself p.now sig }
 {
-    let net = p.net();
-    matches!(net.kind_of(sig), Some(Kind::Dff)) && net.pins_of(sig).contains(&sig)
+    p.is_flip_flop(sig) && p.net().pins_of(sig).contains(&sig)
 }
 
 /// Puts the blocks of a task, and what it forces there from their words, into the buffers.
@@ -235,36 +233,28 @@ pub(crate) fn force(
     buffers: &mut Buffers,
 ) -> Result<(), NoMemory>
     requires of { IsOf p.now planes.now }
-    requires task { IsTaskAt p.now task.sig task.chunk }
-    requires room { 1025 ≤ buffers.old.blocks.room }
+    requires task { IsTaskAt p.now task }
+    requires room { max_gate_signals ≤ buffers.old.blocks.room }
     ensures room { buffers.old.blocks.room ≤ buffers.new.blocks.room }
-    ensures forced { OnOk result (AreForced p.now planes.now task.sig task.chunk buffers.new.places.items buffers.new.view.items buffers.new.out.items) }
+    ensures forced { OnOk result (AreForced p.now planes.now task buffers.new.in_chunks.items buffers.new.out.items) }
 {
     see(p, task, planes, buffers)?;
-    forced_in_chunk(
-        p,
-        task.sig,
-        task.chunk,
-        &buffers.blocks,
-        &buffers.view,
-        &mut buffers.out,
-    );
+    forced_in_chunk(p, task, &buffers.blocks, &buffers.view, &mut buffers.out);
     Ok(())
 }
 
 /// Puts the blocks of a task, and their words, into the buffers.
 fn see(p: &Problem, task: InChunk, planes: &Planes, buffers: &mut Buffers) -> Result<(), NoMemory>
     requires of { IsOf p.now planes.now }
-    requires signal { task.sig.0 < signals_in p.now }
-    requires chunk { task.chunk < chunks_in p.now }
-    requires room { 1025 ≤ buffers.old.blocks.room }
+    requires inside { IsInside p.now task }
+    requires room { max_gate_signals ≤ buffers.old.blocks.room }
     ensures room { buffers.old.blocks.room ≤ buffers.new.blocks.room }
     ensures problem { OnOk result (IsProblem p.now) }
     ensures blocks { OnOk result (buffers.new.blocks.items ≡ blocks_from p.now task.sig task.chunk) }
-    ensures sees { OnOk result (Sees p.now planes.now (blocks_from p.now task.sig task.chunk) buffers.new.places.items buffers.new.view.items buffers.new.out.items) }
+    ensures sees { OnOk result (Sees p.now planes.now (blocks_from p.now task.sig task.chunk) buffers.new.in_chunks.items buffers.new.view.items buffers.new.out.items) }
 {
-    p.blocks_in_chunk(task.sig, task.chunk, &mut buffers.blocks);
-    buffers.places.clear();
+    p.blocks_in_chunk(task, &mut buffers.blocks);
+    buffers.in_chunks.clear();
     buffers.view.clear();
     buffers.out.clear();
     for sig in p.net().signals_of(task.sig) {
@@ -283,50 +273,38 @@ fn see_signal(
     buffers: &mut Buffers,
 ) -> Result<(), NoMemory>
     requires of { IsOf p.now planes.now }
-    requires target { task.sig.0 < signals_in p.now }
+    requires inside { IsInside p.now task }
     requires signal { sig.0 < signals_in p.now }
-    requires chunk { task.chunk < chunks_in p.now }
     ensures blocks { buffers.new.blocks ≡ buffers.old.blocks }
-    ensures sees { OnOk result ((blocks : List AnyBlock) → Sees p.now planes.now blocks buffers.old.places.items buffers.old.view.items buffers.old.out.items
-        → Sees p.now planes.now (blocks ++ blocks_for p.now task.sig task.chunk sig) buffers.new.places.items buffers.new.view.items buffers.new.out.items) }
+    ensures sees { OnOk result ((blocks : List AnyBlock) → Sees p.now planes.now blocks buffers.old.in_chunks.items buffers.old.view.items buffers.old.out.items
+        → Sees p.now planes.now (blocks ++ blocks_for p.now task.sig task.chunk sig) buffers.new.in_chunks.items buffers.new.view.items buffers.new.out.items) }
 {
-    see_block(p, sig, task.chunk, planes, buffers)?;
-    if sig == task.sig && goes_on(p, task) {
-        see_block(p, sig, task.chunk + 1, planes, buffers)?;
+    let chunk = task.chunk;
+    see_block(p, InChunk { sig, chunk }, planes, buffers)?;
+    if sig == task.sig && p.goes_on(task) {
+        let chunk = chunk + 1;
+        see_block(p, InChunk { sig, chunk }, planes, buffers)?;
     }
     Ok(())
-}
-
-/// Whether the task is that of a flip-flop, and there is a next chunk.
-fn goes_on(p: &Problem, task: InChunk) -> bool
-    requires signal { task.sig.0 < signals_in p.now }
-    requires chunk { task.chunk < chunks_in p.now }
-    ensures goes_on { result ≡ goes_on_from p.now task.sig task.chunk }
-    ensures next { IsTrue result → task.chunk + 1 < 128 }
-{
-    let chunks = p.chunks();
-    matches!(p.net().kind_of(task.sig), Some(Kind::Dff)) && task.chunk + 1 < chunks
 }
 
 /// Adds a block and its words.
 #[inline]
 fn see_block(
     p: &Problem,
-    sig: Sig,
-    chunk: u32,
+    at: InChunk,
     planes: &Planes,
     buffers: &mut Buffers,
 ) -> Result<(), NoMemory>
     requires of { IsOf p.now planes.now }
-    requires signal { sig.0 < signals_in p.now }
-    requires chunk { chunk < chunks_in p.now }
+    requires inside { IsInside p.now at }
     ensures blocks { buffers.new.blocks ≡ buffers.old.blocks }
-    ensures sees { OnOk result ((blocks : List AnyBlock) → Sees p.now planes.now blocks buffers.old.places.items buffers.old.view.items buffers.old.out.items
-        → Sees p.now planes.now (blocks ++ block_at p.now sig chunk ∷ []) buffers.new.places.items buffers.new.view.items buffers.new.out.items) }
+    ensures sees { OnOk result ((blocks : List AnyBlock) → Sees p.now planes.now blocks buffers.old.in_chunks.items buffers.old.view.items buffers.old.out.items
+        → Sees p.now planes.now (blocks ++ block_in p.now at ∷ []) buffers.new.in_chunks.items buffers.new.view.items buffers.new.out.items) }
 {
-    buffers.places.push(InChunk { sig, chunk })?;
-    buffers.view.push(planes.word_in_chunk(p, sig, chunk))?;
-    buffers.out.push(PinWord { zero: 0, one: 0 })
+    buffers.in_chunks.push(at)?;
+    buffers.view.push(planes.word_in_chunk(p, at))?;
+    buffers.out.push(PinWord::none())
 }
 
 /// Joins what is forced into the blocks, and answers whether something was new.
@@ -334,23 +312,23 @@ fn join_all(
     p: &Problem,
     planes: &mut Planes,
     queues: &mut TaskQueues,
-    places: &Sequence<InChunk>,
+    in_chunks: &Sequence<InChunk>,
     out: &PinWords,
 ) -> Result<bool, NoMemory>
     requires of { IsOf p.now planes.old }
     requires are_tasks { AreTasksOf p.now queues.old }
-    requires inside { All (IsInside p.now) places.now.items }
-    requires out { length out.now.items ≡ length places.now.items }
-    requires later { HaveNoLaterBit p.now (map (block_in p.now) places.now.items) out.now.items }
+    requires inside { All (IsInside p.now) in_chunks.now.items }
+    requires out { length out.now.items ≡ length in_chunks.now.items }
+    requires later { HaveNoLaterBit p.now (map (block_in p.now) in_chunks.now.items) out.now.items }
     ensures wakes { OnOk result (Wakes p.now planes.old planes.new queues.old queues.new) }
-    ensures falls { IfOk result (λ added. Falls added planes.old planes.new queues.old queues.new) }
-    ensures joins { OnOk result (JoinsFirst (map (block_in p.now) places.now.items) out.now.items (length places.now.items) planes.old planes.new) }
+    ensures falls { IfOk result (λ added. Falls p.now added planes.old planes.new queues.old queues.new) }
+    ensures joins { OnOk result (JoinsFirst (map (block_in p.now) in_chunks.now.items) out.now.items (length in_chunks.now.items) planes.old planes.new) }
 {
     let mut added = false;
-    for place in 0..places.len() {
-        let at = places.as_slice()[place];
-        let words = out.as_slice()[place];
-        added = join(p, planes, queues, at.sig, at.chunk, words)? | added;
+    for index in 0..in_chunks.len() {
+        let at = in_chunks.as_slice()[index];
+        let words = out.as_slice()[index];
+        added = join(p, planes, queues, at, words)? | added;
     }
     Ok(added)
 }
@@ -360,91 +338,60 @@ pub fn join(
     p: &Problem,
     planes: &mut Planes,
     queues: &mut TaskQueues,
-    sig: Sig,
-    chunk: u32,
+    at: InChunk,
     words: PinWord,
 ) -> Result<bool, NoMemory>
     requires of { IsOf p.now planes.old }
     requires are_tasks { AreTasksOf p.now queues.old }
-    requires signal { sig.0 < signals_in p.now }
-    requires chunk { chunk < chunks_in p.now }
-    requires no_later { HasNoLaterBit p.now.cycles chunk words }
+    requires inside { IsInside p.now at }
+    requires no_later { HasNoLaterBit p.now.cycles at.chunk words }
     ensures wakes { OnOk result (Wakes p.now planes.old planes.new queues.old queues.new) }
-    ensures falls { IfOk result (λ added. Falls added planes.old planes.new queues.old queues.new) }
-    ensures joins { OnOk result (Joins (block_at p.now sig chunk) words planes.old planes.new) }
+    ensures falls { IfOk result (λ added. Falls p.now added planes.old planes.new queues.old queues.new) }
+    ensures joins { OnOk result (Joins (block_in p.now at) words planes.old planes.new) }
 {
-    let old = planes.word_in_chunk(p, sig, chunk);
-    let new = union(old, words);
-    if new == old {
+    let fresh = planes.new_in_chunk(p, at, words);
+    if fresh == 0 {
         return Ok(false);
     }
-    planes.set_in_chunk(p, sig, chunk, new);
-    wake(p, queues, sig, chunk, fresh(old, new))?;
+    planes.add_in_chunk(p, at, words);
+    wake(p, queues, at, fresh)?;
     Ok(true)
 }
 
-/// The literals of both.
-#[tactic(auto, using(crate::proofs::Waking::or_small))]
-#[inline]
-pub(crate) fn union(a: PinWord, b: PinWord) -> PinWord
-    ensures joined { result ≡ joined a b }
-    ensures small_zero { result.zero < 2 ^ 64 }
-    ensures small_one { result.one < 2 ^ 64 }
-{
-    PinWord {
-        zero: a.zero | b.zero,
-        one: a.one | b.one,
-    }
-}
-
-/// The bits that differ in one of the words.
-#[tactic(auto, using(crate::proofs::FreshBits::not_fresh))]
-fn fresh(old: PinWord, new: PinWord) -> u64
-    ensures { (i : ℕ) (bit : Bool) → is_set result i ≡ false → is_set (word_for bit new) i ≡ is_set (word_for bit old) i }
-{
-    (old.zero ^ new.zero) | (old.one ^ new.one)
-}
-
 /// Lets the tasks wait that fresh bits of a block are in: its signal's own ones and those of the other readers.
-fn wake(
-    p: &Problem,
-    queues: &mut TaskQueues,
-    sig: Sig,
-    chunk: u32,
-    fresh: u64,
-) -> Result<(), NoMemory>
+fn wake(p: &Problem, queues: &mut TaskQueues, at: InChunk, fresh: u64) -> Result<(), NoMemory>
     requires are_tasks { AreTasksOf p.now queues.old }
-    requires signal { sig.0 < signals_in p.now }
-    requires chunk { chunk < chunks_in p.now }
-    ensures { OnOk result (Pushed p.now (woken_from p.now sig chunk fresh) queues.old queues.new) }
+    requires inside { IsInside p.now at }
+    ensures { OnOk result (Pushed p.now (woken_from p.now at.sig at.chunk fresh) queues.old queues.new) }
 {
-    wake_own(p, queues, sig, chunk, fresh)?;
-    for reader in p.net().other_readers(sig) {
-        push_task(p, queues, *reader, chunk)?;
+    wake_own(p, queues, at, fresh)?;
+    for reader in p.net().other_readers(at.sig) {
+        let chunk = at.chunk;
+        push_task(
+            p,
+            queues,
+            InChunk {
+                sig: *reader,
+                chunk,
+            },
+        )?;
     }
     Ok(())
 }
 
 /// Lets the signal's own tasks wait, if it is driven: that of the chunk, and of a flip-flop those that have the bits.
-fn wake_own(
-    p: &Problem,
-    queues: &mut TaskQueues,
-    sig: Sig,
-    chunk: u32,
-    fresh: u64,
-) -> Result<(), NoMemory>
+fn wake_own(p: &Problem, queues: &mut TaskQueues, at: InChunk, fresh: u64) -> Result<(), NoMemory>
     requires are_tasks { AreTasksOf p.now queues.old }
-    requires signal { sig.0 < signals_in p.now }
-    requires chunk { chunk < chunks_in p.now }
-    ensures { OnOk result (Pushed p.now (own_woken p.now (driver_at p.now.circuit.drivers sig.0) sig chunk fresh) queues.old queues.new) }
+    requires inside { IsInside p.now at }
+    ensures { OnOk result (Pushed p.now (own_woken p.now (driver_at p.now.circuit.drivers at.sig.0) at.sig at.chunk fresh) queues.old queues.new) }
 {
-    match p.net().kind_of(sig) {
+    if p.is_flip_flop(at.sig) {
+        wake_before(p, queues, at, fresh)?;
+        return wake_in_chunk(p, queues, at, fresh);
+    }
+    match p.net().kind_of(at.sig) {
         None => Ok(()),
-        Some(Kind::Dff) => {
-            wake_before(p, queues, sig, chunk, fresh)?;
-            wake_in_chunk(p, queues, sig, chunk, fresh)
-        }
-        Some(_) => push_task(p, queues, sig, chunk),
+        Some(_) => push_task(p, queues, at),
     }
 }
 
@@ -452,50 +399,45 @@ fn wake_own(
 fn wake_before(
     p: &Problem,
     queues: &mut TaskQueues,
-    sig: Sig,
-    chunk: u32,
+    at: InChunk,
     fresh: u64,
 ) -> Result<(), NoMemory>
     requires are_tasks { AreTasksOf p.now queues.old }
-    requires task { IsTaskAt p.now sig chunk }
-    ensures { OnOk result (Pushed p.now (before_woken p.now sig chunk fresh) queues.old queues.new) }
+    requires task { IsTaskAt p.now at }
+    ensures { OnOk result (Pushed p.now (before_woken p.now at.sig at.chunk fresh) queues.old queues.new) }
 {
-    if chunk == 0 || fresh % 2 == 0 {
+    if at.chunk == 0 || fresh % 2 == 0 {
         return Ok(());
     }
-    push_task(p, queues, sig, chunk - 1)
+    let sig = at.sig;
+    let chunk = at.chunk - 1;
+    push_task(p, queues, InChunk { sig, chunk })
 }
 
 /// Lets a flip-flop's task in the chunk wait, if another bit is fresh, or the flip-flop is its own pin.
 fn wake_in_chunk(
     p: &Problem,
     queues: &mut TaskQueues,
-    sig: Sig,
-    chunk: u32,
+    at: InChunk,
     fresh: u64,
 ) -> Result<(), NoMemory>
     requires are_tasks { AreTasksOf p.now queues.old }
-    requires task { IsTaskAt p.now sig chunk }
-    requires flip_flop { is_flip_flop (driver_at p.now.circuit.drivers sig.0) ≡ true }
-    ensures { OnOk result (Pushed p.now (chunk_woken p.now (driver_at p.now.circuit.drivers sig.0) sig chunk fresh) queues.old queues.new) }
+    requires task { IsTaskAt p.now at }
+    requires flip_flop { is_flip_flop (driver_at p.now.circuit.drivers at.sig.0) ≡ true }
+    ensures { OnOk result (Pushed p.now (chunk_woken p.now (driver_at p.now.circuit.drivers at.sig.0) at.sig at.chunk fresh) queues.old queues.new) }
 {
-    if fresh <= 1 && !drives_itself(p, sig) {
+    if fresh <= 1 && !drives_itself(p, at.sig) {
         return Ok(());
     }
-    push_task(p, queues, sig, chunk)
+    push_task(p, queues, at)
 }
 
 /// Lets a task wait.
-pub fn push_task(
-    p: &Problem,
-    queues: &mut TaskQueues,
-    target: Sig,
-    chunk: u32,
-) -> Result<(), NoMemory>
+pub fn push_task(p: &Problem, queues: &mut TaskQueues, task: InChunk) -> Result<(), NoMemory>
     requires are_tasks { AreTasksOf p.now queues.old }
-    requires task { IsTaskAt p.now target chunk }
-    ensures { OnOk result (Pushed p.now (task_at p.now target chunk ∷ []) queues.old queues.new) }
+    requires task { IsTaskAt p.now task }
+    ensures { OnOk result (Pushed p.now (task_in p.now task ∷ []) queues.old queues.new) }
 {
-    queues.push(target, chunk)?;
+    queues.push(task.sig, task.chunk)?;
     Ok(())
 }

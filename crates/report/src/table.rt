@@ -20,7 +20,7 @@ use ratio::Ratio;
 use sr_model::Sig;
 use sr_outside::{Sink, WriteFault};
 use sr_text::write_u64;
-use unroll::{PinWord, Problem};
+use unroll::{InChunk, PinWord, Problem};
 
 /// Writes the table of the known literals: a row for each signal in ascending number, or for each flip-flop, with `0`, `1` or `x` for each cycle, and the line with
 /// the ratio of the known flip-flop cells to those that were traced.
@@ -159,7 +159,7 @@ fn fill_cells(p: &Problem, planes: &Planes, sig: Sig, bytes: &mut [u8], start: u
 {
     let cycles = p.cycles();
     for chunk in 0..p.chunks() {
-        let words = planes.word_in_chunk(p, sig, chunk);
+        let words = planes.word_in_chunk(p, InChunk { sig, chunk });
         let first = 64 * chunk;
         let count = (cycles - first).min(64);
         fill_chunk(words, count, bytes, start + first as usize);
@@ -193,19 +193,11 @@ fn character(words: PinWord, i: u32) -> u8
     requires { i < 64 }
     ensures { result ≡ bit_character (word_bit words i) }
 {
-    match (is_set(words.zero, i), is_set(words.one, i)) {
+    match (words.has(false, i), words.has(true, i)) {
         (true, _) => b'0',
         (false, true) => b'1',
         (false, false) => b'x',
     }
-}
-
-/// Whether bit i of the word is set.
-fn is_set(word: u64, i: u32) -> bool
-    requires { i < 64 }
-    ensures { result ≡ is_set word i }
-{
-    (word >> i) & 1 == 1
 }
 
 /// Writes how many flip-flop cells were traced and are known, and their ratio.

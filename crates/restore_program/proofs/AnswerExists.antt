@@ -23,7 +23,7 @@ use Rattle.ratio.specs.Ratio.{Counts}
 use Rattle.cycle_sim.specs.Drawing.{drawn_bit}
 use Rattle.cycle_sim.specs.Load.{IsLoadSize}
 use Rattle.cycle_sim.specs.Simulation.{traced_rows}
-use Rattle.cycle_sim.proofs.lemmas.Simulations.{simulation_exists}
+use Rattle.cycle_sim.proofs.lemmas.Laws.{simulation_exists}
 use Rattle.report.specs.declared.refusal.Part.TheVariants as parts
 use Rattle.report.specs.declared.refusal.WordRefusal.TheVariants as word_refusals
 use Rattle.report.specs.Clash.{clash_line}

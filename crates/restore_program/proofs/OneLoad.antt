@@ -9,7 +9,7 @@ use Rattle.netlist.specs.Wiring.{flip_flops}
 use Rattle.netlist.proofs.lemmas.Laws.{statements_give_circuits}
 use Rattle.ratio.specs.Ratio.{Counts}
 use Rattle.cycle_sim.specs.Load.{IsLoadSize, load_statements}
-use Rattle.cycle_sim.proofs.lemmas.Loads.{all-stated, is-netlist}
+use Rattle.cycle_sim.proofs.lemmas.Laws.{loads_are_netlists}
 use Rattle.report.proofs.lemmas.Laws.{shown_within}
 use Rattle.report.specs.Load.{load_line}
 use Rattle.known_planes.specs.Counts.{known_count}
@@ -18,7 +18,9 @@ use Rattle.restore_program.proofs.OneRun.{one_trace}
 use Rattle.restore_program.proofs.SameTests.{same_test}
 
 pub load_is_circuit : (number signals : ℕ) → IsLoadSize signals → IsCircuit (load_circuit number signals)
-load_is_circuit number signals size = statements_give_circuits (load_statements number signals) (all-stated number signals size) (is-netlist number signals size)
+load_is_circuit number signals size =
+    let netlist = loads_are_netlists number signals size in
+    statements_give_circuits (load_statements number signals) netlist.0 netlist.1
 
 pub traced_within : (c : Circuit) → All (λ (s : Sig). s.0 < length c.drivers) (load_traced c)
 traced_within c = All-take (λ (s : Sig). s.0 < length c.drivers) (max 1 (length (flip_flops c.drivers) / 4)) (flip_flops c.drivers) (shown_within c false)

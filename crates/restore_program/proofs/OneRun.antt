@@ -7,7 +7,7 @@ use Rattle.sr_model.specs.Dump.{Row}
 use Rattle.netlist.specs.Circuit.{Circuit, IsCircuit, unrolled_over}
 use Rattle.cycle_sim.specs.Drawing.{AreDrawn, drawn_bit}
 use Rattle.cycle_sim.specs.Simulation.{IsSimulated, traced_rows}
-use Rattle.cycle_sim.proofs.lemmas.Simulations.{simulations_agree, traces_agree}
+use Rattle.cycle_sim.proofs.lemmas.Laws.{simulations_agree, traces_agree}
 use Rattle.restore_program.specs.Tracing.{IsDrawnRun}
 
 -- an execution with drawn bits on the inputs is the seed's run

@@ -4,7 +4,7 @@ use Rattle.sr_model.specs.Dump.{dump_has}
 use Rattle.sr_model.proofs.lemmas.Laws.{no_execution_has_both}
 use Rattle.netlist.specs.Circuit.{unrolled_over}
 use Rattle.cycle_sim.specs.Simulation.{traced_rows}
-use Rattle.cycle_sim.proofs.lemmas.Simulations.{simulation_has_what_follows, trace_matches}
+use Rattle.cycle_sim.proofs.lemmas.Laws.{simulation_has_what_follows, trace_matches}
 use Rattle.restore_program.specs.AnswerLaws.{TraceIsSimulated}
 
 pub trace_is_simulated : TraceIsSimulated

@@ -1,5 +1,4 @@
--- Bits of planes and of their words.
-pub use Rattle.known_planes.proofs.Members.{words-elsewhere, words-there}
-pub use Rattle.known_planes.proofs.Clashes.{both-here, in-block, lowest-bit}
-pub use Rattle.known_planes.proofs.DumpRows.{joined-bit, joined-none}
-pub use Rattle.known_planes.proofs.BitCounts.{tested}
+-- The words of planes, and the bits of words.
+pub use Rattle.known_planes.proofs.Members.{in-block, within-none, words-elsewhere}
+pub use Rattle.known_planes.proofs.Clashes.{both-here, lowest-bit}
+pub use Rattle.known_planes.proofs.BitCounts.{same-words}

@@ -11,7 +11,7 @@ use std::alloc::Global;
 use std::process::Abort;
 use std::test::Fail;
 use std::thread::Threads;
-use unroll::{PinWord, Problem};
+use unroll::{InChunk, PinWord, Problem};
 
 /// A signal, a chunk, and the bits there: where it is 0, and where it is 1.
 type Bits = (u32, u32, u64, u64);
@@ -122,7 +122,6 @@ const CASES: &[Case<'static>] = &[
 ];
 
 /// Sets the literals of a signal in a chunk.
-#[tactic(auto, using(crate::proofs::Adding::masked))]
 fn set_bits(planes: &mut Planes, p: &Problem, bits: &Bits)
     requires of { IsOf p.now planes.old }
     requires signal { bits.now.0 < signals_in p.now }
@@ -130,12 +129,9 @@ fn set_bits(planes: &mut Planes, p: &Problem, bits: &Bits)
     ensures { IsOf p.now planes.new }
 {
     let (s, chunk, zero, one) = *bits;
-    let valid = p.valid_bits(chunk);
-    let words = PinWord {
-        zero: zero & valid,
-        one: one & valid,
-    };
-    planes.set_in_chunk(p, Sig(s), chunk, words);
+    let at = InChunk { sig: Sig(s), chunk };
+    let words = PinWord { zero, one }.within(p.valid_bits(chunk));
+    planes.set_in_chunk(p, at, words);
 }
 
 /// The planes with these literals.
@@ -165,7 +161,8 @@ fn expect_words(rt: &impl Abort, p: &Problem, planes: &Planes, want: &[[(u64, u6
     for s in 0..want.len() {
         for chunk in 0..p.chunks() {
             let (zero, one) = want[s][chunk as usize];
-            let words = planes.word_in_chunk(p, Sig(s as u32), chunk);
+            let sig = Sig(s as u32);
+            let words = planes.word_in_chunk(p, InChunk { sig, chunk });
             assert_eq!(rt; words, PinWord { zero, one });
         }
     }
@@ -240,7 +237,13 @@ fn stops_at_a_clash(rt: HostRuntime) -> Result<(), Fail> {
     };
     assert_eq!(rt; known.clash(&p), Some(cell));
     assert_eq!(rt;
-        known.word_in_chunk(&p, Sig(0), 0),
+        known.word_in_chunk(
+            &p,
+            InChunk {
+                sig: Sig(0),
+                chunk: 0
+            }
+        ),
         PinWord { zero: 1, one: 0 }
     );
     Ok(())

@@ -1,7 +1,8 @@
 //! Tasks that wait.
-use crate::task_queues::{InChunk, TaskQueues};
+use crate::task_queues::TaskQueues;
 use sr_model::Sig;
 use std::test::Fail;
+use unroll::InChunk;
 
 /// The task of signal 1 is pushed twice, and none waits once it is taken.
 #[test]

@@ -19,19 +19,19 @@ bounds-frame-pins_of c =
 pub loop-j-preserved : goal.loop-j-preserved
 loop-j-preserved c = (
   length-set c.loop-j.state c.loop-j.j (get_or c.args.frame.now (get_or c.pins_of.result.now 0 (record { 0 = 0 })).0 false) ∙ c.loop-j.invariant.0,
-  λ later v sim.
+  λ given cycle all later v sim.
       let q : Sig = get_or c.flip_flops-flip_flops.result.now c.loop-j.j (record { 0 = 0 }) in
       let pin : Sig = get_or c.pins_of.result.now 0 (record { 0 = 0 }) in
       let first : (0 < length c.pins_of.result.now) × (pin.0 < length c.args.n.now.drivers) = first-pin c.args.n.now c.requires.circuit c.flip_flops-flip_flops.result.now c.flip_flops-flip_flops.ensures c.loop-j.j _ c.loop-j-test.true c.pins_of.result.now c.pins_of.ensures in
-      states-more v (c.args.cycle + 1) c.loop-j.state c.flip_flops-flip_flops.result.now c.loop-j.j (record { 0 = 0 }) (get_or c.args.frame.now pin.0 false)
+      states-more v (cycle + 1) c.loop-j.state c.flip_flops-flip_flops.result.now c.loop-j.j (record { 0 = 0 }) (get_or c.args.frame.now pin.0 false)
       (subst (λ n. c.loop-j.j < n) (sym (c.loop-j.auto.state ∙ c.requires.size ∙ ap length (sym c.flip_flops-flip_flops.ensures))) c.loop-j-test.true)
-      (c.requires.all v sim pin first.1
-      ∙ sym (flip_flop-value c.args.n.now c.args._s.now.count (bit_in c.args._s.now) v sim c.args.cycle q
+      (all v sim pin first.1
+      ∙ sym (flip_flop-value c.args.n.now given.count (bit_in given) v sim cycle q
       (flip_flop-within c.args.n.now.drivers c.flip_flops-flip_flops.result.now c.flip_flops-flip_flops.ensures c.loop-j.j _ c.loop-j-test.true).1 later c.pins_of.result.now c.pins_of.ensures first.0))
-      (c.loop-j.invariant.1 later v sim),
+      (c.loop-j.invariant.1 given cycle all later v sim),
 )
 
 pub returns-clause-state : goal.returns-clause-state
-returns-clause-state c later v sim j h =
-    c.loop-j.invariant.1 later v sim j (omega (arith, h, c.loop-j-test.false, ap length c.flip_flops-flip_flops.ensures))
-    ∙ ap (λ xs. v (cell_at (c.args.cycle + 1) (get_or xs j (record { 0 = 0 })))) c.flip_flops-flip_flops.ensures
+returns-clause-state c given cycle all later v sim j h =
+    c.loop-j.invariant.1 given cycle all later v sim j (omega (arith, h, c.loop-j-test.false, ap length c.flip_flops-flip_flops.ensures))
+    ∙ ap (λ xs. v (cell_at (cycle + 1) (get_or xs j (record { 0 = 0 })))) c.flip_flops-flip_flops.ensures

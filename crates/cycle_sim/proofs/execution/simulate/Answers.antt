@@ -5,7 +5,7 @@ use Rattle.netlist.proofs.lemmas.Signals.{signals_within}
 use Rattle.cycle_sim.specs.BitTable.{bit_in}
 use Rattle.cycle_sim.specs.Simulation.{bits_of}
 use Rattle.cycle_sim.proofs.Existing.{signals-size, some-cycle, bits-agree, bits-simulated}
-use Rattle.cycle_sim.proofs.lemmas.Simulations.{simulation_has_what_follows}
+use Rattle.cycle_sim.proofs.Simulations.{simulation_has_what_follows}
 use Rattle.cycle_sim.proofs.execution.simulate.Goals as goal
 
 pub simulated_bits-requires-clause-kept : goal.simulated_bits-requires-clause-kept

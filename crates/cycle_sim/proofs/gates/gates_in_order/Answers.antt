@@ -2,7 +2,7 @@ use Rattle.std.proofs.Common.{◌≡◌, ◌+◌, map, take, List, sym, subst}
 use Rattle.std.specs.List.{All}
 use Rattle.cycle_sim.specs.declared.gates.Gate.{Gate}
 use Rattle.cycle_sim.specs.Frames.{IsGate}
-use Rattle.cycle_sim.proofs.GateRows.{order-within, gates-more}
+use Rattle.cycle_sim.proofs.GateOutputs.{order-within, gates-more}
 use Rattle.cycle_sim.proofs.gates.gates_in_order.Goals as goal
 
 pub gate_of-requires-clause-target : goal.gate_of-requires-clause-target

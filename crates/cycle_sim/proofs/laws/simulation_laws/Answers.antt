@@ -1,4 +1,4 @@
-use Rattle.cycle_sim.proofs.lemmas.Simulations.{simulation_exists, simulations_agree, simulation_has_what_follows, trace_matches, traces_agree}
+use Rattle.cycle_sim.proofs.Simulations.{simulation_exists, simulations_agree, simulation_has_what_follows, trace_matches, traces_agree}
 use Rattle.cycle_sim.proofs.laws.simulation_laws.Goals as goal
 
 pub returns-clause-exists : goal.returns-clause-exists

@@ -1,4 +1,4 @@
-use Rattle.std.proofs.Common.{◌≡◌, List, length, ap, subst, arith}
+use Rattle.std.proofs.Common.{◌≡◌, List, length, sym, ap, subst, arith}
 use Rattle.std.specs.List.{All}
 use Rattle.sr_model.specs.Declaration.{Declaration, InputNamed}
 use Rattle.netlist.specs.Circuit.{IsNetlist}
@@ -6,8 +6,8 @@ use Rattle.netlist.specs.Numbering.{IsStatement, drivers_of}
 use Rattle.netlist.specs.Wiring.{flip_flops}
 use Rattle.cycle_sim.specs.Load.{AreOnLines, load_name, input_count, flip_flop_count, gate_count, load_gate, load_flip_flop, load_statements}
 use Rattle.cycle_sim.proofs.Drawn.{at-start}
-use Rattle.cycle_sim.proofs.LoadSteps.{added-length, load-made, declared-are, keeps-all}
-use Rattle.cycle_sim.proofs.LoadNets.{all-stated, is-netlist, signals-are, flip_flops-are}
+use Rattle.cycle_sim.proofs.LoadSteps.{added-length, load-made, lines_declare, keeps-all}
+use Rattle.cycle_sim.proofs.LoadNets.{loads_are_netlists, signals-are, flip_flops-are}
 use Rattle.cycle_sim.proofs.load.load_netlist.Goals as goal
 
 pub push_gates-requires-clause-room : goal.push_gates-requires-clause-room
@@ -45,11 +45,12 @@ returns c =
     c.in_ok-lines.ensures c.in_ok-push_inputs.ensures (c.in_ok-push_gates.ensures.lines c.args.number start)
     (c.in_ok-push_flip_flops.ensures c.args.number (c.in_ok-push_gates.ensures.words c.args.number start)) c.in_ok-push.ensures c.in_ok-to_name.ensures in
     let on_lines : AreOnLines ds c.into_statements.result = subst (λ (xs : List Declaration). AreOnLines xs c.into_statements.result) made c.into_statements.ensures in
-    let same = declared-are ds c.into_statements.result on_lines in record {
+    let same = sym (lines_declare ds c.into_statements.result on_lines) in
+    let netlist : All IsStatement ds × IsNetlist ds = loads_are_netlists c.args.number c.args.signals c.requires in record {
       statements = on_lines;
-      each = subst (All IsStatement) same (all-stated c.args.number c.args.signals c.requires);
-      netlist = subst IsNetlist same (is-netlist c.args.number c.args.signals c.requires);
-      accepted = keeps-all ds c.into_statements.result on_lines (is-netlist c.args.number c.args.signals c.requires);
+      each = subst (All IsStatement) same netlist.0;
+      netlist = subst IsNetlist same netlist.1;
+      accepted = keeps-all ds c.into_statements.result on_lines netlist.1;
       signals = subst (λ (xs : List Declaration). length (drivers_of xs) ≡ c.args.signals) same (signals-are c.args.number c.args.signals c.requires);
       flip_flops = subst (λ (xs : List Declaration). length (flip_flops (drivers_of xs)) ≡ flip_flop_count c.args.signals) same (flip_flops-are c.args.number c.args.signals c.requires);
     }

@@ -5,7 +5,7 @@ use Rattle.sr_model.specs.Netlist.{Valuation}
 use Rattle.dump_reader.specs.Recording.{tri_bit, row_of}
 use Rattle.cycle_sim.specs.BitTable.{bit_in}
 use Rattle.cycle_sim.specs.Simulation.{IsSimulated, traced_rows}
-use Rattle.cycle_sim.proofs.lemmas.Simulations.{simulation_exists}
+use Rattle.cycle_sim.proofs.Simulations.{simulation_exists}
 use Rattle.cycle_sim.proofs.Tracing.{cells-size, row-is, rows-more, new-signal}
 use Rattle.cycle_sim.proofs.traces.simulate_trace.Goals as goal
 

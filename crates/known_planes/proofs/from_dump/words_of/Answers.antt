@@ -4,7 +4,7 @@ use Rattle.known_planes.proofs.from_dump.words_of.Goals.{in-Zero, in-One, in-X}
 use Rattle.known_planes.proofs.from_dump.words_of.Goals as goal
 
 pub loop-i-init : goal.loop-i-init
-loop-i-init c = has-none c.args.cells.now
+loop-i-init c = subst (HasFirst c.args.cells.now 0) (sym c.none-words.ensures.words) (has-none c.args.cells.now)
 
 pub loop-i-preserved : goal.loop-i-preserved
 loop-i-preserved c =

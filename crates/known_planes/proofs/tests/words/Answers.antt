@@ -1,5 +1,6 @@
-use Rattle.known_planes.proofs.Members.{masked-none}
+use Rattle.known_planes.proofs.Members.{within-none}
 use Rattle.known_planes.proofs.tests.words.Goals as goal
 
 pub returns : goal.returns
-returns c = masked-none c.args.p.now c.args.chunk c.args.zero c.args.one c.valid_bits-valid.result c.valid_bits-valid.ensures
+returns c =
+    within-none c.args.p.now.cycles c.args.chunk c.valid_bits.result (record { zero = c.args.zero; one = c.args.one }) c.within.result c.within.ensures c.valid_bits.ensures

@@ -1,13 +1,13 @@
-use Rattle.std.proofs.Common.{ℕ, ◌≡◌, ◌||◌, Bool, true, false, not, eqb, bit_and, arith, refl, subst, sym, get_or}
+use Rattle.std.proofs.Common.{ℕ, ◌≡◌, ◌||◌, Bool, true, false, not, eqb, arith, refl, subst, sym, get_or}
 use Rattle.std.specs.List.{All}
 use Rattle.std.proofs.lemmas.Bool.{eqb-true, true≢false}
 use Rattle.std.proofs.lemmas.List.Elements.{All-get_or}
-use Rattle.plain_close.specs.declared.task_queues.InChunk.{InChunk}
-use Rattle.plain_close.specs.Turns.{IsInside}
 use Rattle.plain_close.proofs.Adding.{no_later-in}
 use Rattle.plain_close.proofs.NoClash.{no_clash-more}
 use Rattle.plain_close.proofs.Taking.{Takes, takes-more, takes-all, same-taken}
 use Rattle.plain_close.proofs.Waking.{wakes-then}
+use Rattle.unroll.specs.declared.problem.InChunk.{InChunk}
+use Rattle.unroll.specs.Problem.{IsInside}
 use Rattle.plain_close.proofs.next_level.take_changed.Goals as goal
 
 abbrev nowhere : InChunk
@@ -26,8 +26,7 @@ pub join-requires-clause-no_later : goal.join-requires-clause-no_later
 join-requires-clause-no_later c =
     let inside : IsInside c.args.p.now (get_or c.as_slice-at-items.result.now c.loop-at.at-index nowhere) =
     All-get_or (IsInside c.args.p.now) c.as_slice-at-items.result.now c.loop-at.at-index nowhere c.loop-at-test.true (subst (All (IsInside c.args.p.now)) (sym c.as_slice-at-items.ensures) c.requires.noted.inside) in
-    no_later-in c.args.p.now c.args.next.now.planes (get_or c.as_slice-at-items.result.now c.loop-at.at-index nowhere).sig (get_or c.as_slice-at-items.result.now c.loop-at.at-index nowhere).chunk
-    c.word_in_chunk-words.result c.requires.noted.of inside.0 inside.1 c.word_in_chunk-words.ensures
+    no_later-in c.args.p.now c.args.next.now.planes (get_or c.as_slice-at-items.result.now c.loop-at.at-index nowhere) c.word_in_chunk-words.result c.requires.noted.of inside c.word_in_chunk-words.ensures
 
 pub loop-at-preserved : goal.loop-at-preserved
 loop-at-preserved c = record {
@@ -35,9 +34,9 @@ loop-at-preserved c = record {
   takes = takes-more c.args.p.now c.args.next.now.planes c.as_slice-at-items.result.now c.loop-at.at-index nowhere c.args.planes.now c.loop-at.planes c.join.new.planes c.word_in_chunk-words.result
       c.loop-at-test.true c.loop-at.invariant.takes c.in_ok-join.ensures.wakes.bits c.word_in_chunk-words.ensures c.in_ok-join.ensures.joins;
   none = λ no.
-      let parts : (c.loop-at.has_both ≡ false) × (bit_and c.word_in_chunk-words.result.zero c.word_in_chunk-words.result.one ≡ 0) =
-      neither c.loop-at.has_both (bit_and c.word_in_chunk-words.result.zero c.word_in_chunk-words.result.one) no in
-      no_clash-more c.args.p.now c.args.next.now.planes c.as_slice-at-items.result.now c.loop-at.at-index nowhere c.word_in_chunk-words.result c.loop-at-test.true c.word_in_chunk-words.ensures parts.1
+      let parts : (c.loop-at.has_both ≡ false) × (c.both.result ≡ 0) = neither c.loop-at.has_both c.both.result no in
+      no_clash-more c.args.p.now c.args.next.now.planes c.as_slice-at-items.result.now c.loop-at.at-index nowhere c.word_in_chunk-words.result c.both.result c.loop-at-test.true c.word_in_chunk-words.ensures c.both.ensures
+      parts.1
       (c.loop-at.invariant.none parts.0);
 }
 

@@ -1,7 +1,8 @@
 use Rattle.std.proofs.Common.{map, take}
 use Rattle.std.specs.Prelude.{IsFalse}
-use Rattle.plain_close.specs.Turns.{Wakes, HaveNoClash, block_in}
+use Rattle.plain_close.specs.Turns.{Wakes, HaveNoClash}
 use Rattle.plain_close.proofs.Taking.{Takes}
+use Rattle.unroll.specs.Problem.{block_in}
 use Rattle.plain_close.proofs.next_level.take_changed.Given as goal
 
 -- the first blocks are taken over

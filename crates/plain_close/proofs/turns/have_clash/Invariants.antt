@@ -1,5 +1,6 @@
 use Rattle.std.proofs.Common.{map, take}
-use Rattle.plain_close.specs.Turns.{HaveNoClash, block_in}
+use Rattle.plain_close.specs.Turns.{HaveNoClash}
+use Rattle.unroll.specs.Problem.{block_in}
 use Rattle.plain_close.proofs.turns.have_clash.Given as goal
 
 abbrev pub invariant-loop-at : goal.invariant-loop-at

@@ -1,7 +1,7 @@
 use Rattle.std.proofs.Common.{ap, ◌∙◌}
 use Rattle.netlist.specs.Circuit.{Circuit}
 use Rattle.netlist.specs.Wiring.{signals_of}
-use Rattle.unroll.proofs.lemmas.Blocks.{signal-within}
+use Rattle.unroll.proofs.lemmas.Tasks.{signal-within}
 use Rattle.plain_close.proofs.turns.see.Goals as goal
 
 pub see_signal-requires-clause-signal : goal.see_signal-requires-clause-signal

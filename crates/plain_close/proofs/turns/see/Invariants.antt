@@ -7,4 +7,4 @@ use Rattle.plain_close.proofs.turns.see.Given as goal
 abbrev pub invariant-loop-sig : goal.invariant-loop-sig
 invariant-loop-sig l =
     (l.fn.buffers.blocks.room ≤ l.buffers.blocks.room) × (l.buffers.blocks.items ≡ blocks_from l.p l.task.sig l.task.chunk)
-    × Sees l.p l.planes (flat_map (blocks_for l.p l.task.sig l.task.chunk) (take l.sig-index l.sig-items)) l.buffers.places.items l.buffers.view.items l.buffers.out.items
+    × Sees l.p l.planes (flat_map (blocks_for l.p l.task.sig l.task.chunk) (take l.sig-index l.sig-items)) l.buffers.in_chunks.items l.buffers.view.items l.buffers.out.items

@@ -6,4 +6,4 @@ abbrev pub invariant-loop : goal.invariant-loop
 invariant-loop l = Between l.p l.fn.planes l.planes l.queues × (l.fn.buffers.blocks.room ≤ l.buffers.blocks.room)
 
 abbrev pub decreases-loop : goal.decreases-loop
-decreases-loop l = missing_of l.planes
+decreases-loop l = missing_of l.p l.planes

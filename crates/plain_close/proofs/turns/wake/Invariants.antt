@@ -6,4 +6,4 @@ use Rattle.plain_close.proofs.turns.wake.Given as goal
 
 abbrev pub invariant-loop-reader : goal.invariant-loop-reader
 invariant-loop-reader l =
-    Pushed l.p (own_woken l.p (driver_at l.p.circuit.drivers l.fn.sig.0) l.fn.sig l.chunk l.fn.fresh ++ map (λ r. task_at l.p r l.chunk) (take l.reader-index l.reader-items)) l.fn.queues l.queues
+    Pushed l.p (own_woken l.p (driver_at l.p.circuit.drivers l.at.sig.0) l.at.sig l.at.chunk l.fresh ++ map (λ r. task_at l.p r l.at.chunk) (take l.reader-index l.reader-items)) l.fn.queues l.queues

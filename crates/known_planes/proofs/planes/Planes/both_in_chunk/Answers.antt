@@ -6,7 +6,7 @@ pub loop-s-init : goal.loop-s-init
 loop-s-init c = each-none c.args.self.now c.args.chunk
 
 pub loop-s-preserved : goal.loop-s-preserved
-loop-s-preserved c = each-more c.args.self.now c.args.chunk c.loop-s.s c.loop-s.both c.pair-words.result c.pair-words.ensures c.loop-s.invariant
+loop-s-preserved c = each-more c.args.self.now c.args.chunk c.loop-s.s c.loop-s.both c.both-both.result c.pair-words.result c.pair-words.ensures c.both-both.ensures c.loop-s.invariant
 
 pub returns : goal.returns
 returns c =

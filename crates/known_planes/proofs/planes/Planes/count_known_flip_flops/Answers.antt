@@ -2,7 +2,7 @@ use Rattle.std.proofs.Common.{◌≡◌, ◌*◌, arith, ap, ◌∙◌}
 use Rattle.std.specs.List.{sum_by, range_with_len}
 use Rattle.netlist.specs.Wiring.{flip_flops}
 use Rattle.known_planes.specs.Counts.{known_bits_at}
-use Rattle.known_planes.proofs.RowCounts.{known-all, chunk-more}
+use Rattle.known_planes.proofs.SignalCounts.{known-all, chunk-more}
 use Rattle.known_planes.proofs.planes.Planes.count_known_flip_flops.Goals as goal
 
 pub loop-chunk-preserved : goal.loop-chunk-preserved

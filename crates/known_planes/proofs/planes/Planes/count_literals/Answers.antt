@@ -2,7 +2,7 @@ use Rattle.std.proofs.Common.{◌≡◌, ◌*◌, arith, ap, ◌∙◌}
 use Rattle.std.specs.List.{sum_by, range_with_len}
 use Rattle.netlist.specs.Wiring.{signals_below}
 use Rattle.known_planes.specs.Counts.{literal_bits_at}
-use Rattle.known_planes.proofs.RowCounts.{literals-all, chunk-more}
+use Rattle.known_planes.proofs.SignalCounts.{literals-all, chunk-more}
 use Rattle.known_planes.proofs.planes.Planes.count_literals.Goals as goal
 
 pub loop-chunk-preserved : goal.loop-chunk-preserved

@@ -1,7 +1,7 @@
 use Rattle.std.proofs.Common.{◌≡◌, length, arith, ap, ◌∙◌}
 use Rattle.netlist.specs.Circuit.{Circuit}
 use Rattle.netlist.specs.Wiring.{flip_flops}
-use Rattle.known_planes.proofs.RowCounts.{known-more, listed-within, few-flip_flops}
+use Rattle.known_planes.proofs.SignalCounts.{known-more, listed-within, few-flip_flops}
 use Rattle.known_planes.proofs.planes.Planes.known_in_chunk.Goals as goal
 
 pub pair-words-requires-clause-signal : goal.pair-words-requires-clause-signal
@@ -11,8 +11,8 @@ pair-words-requires-clause-signal c =
 
 pub loop-s-preserved : goal.loop-s-preserved
 loop-s-preserved c =
-    known-more c.args.self.now c.args.chunk c.flip_flops-s-items.result.now c.loop-s.s-index _ c.loop-s-test.true c.pair-words.result c.count_bits.result c.from-count.result c.loop-s.count
-    c.pair-words.ensures c.count_bits.ensures.count c.count_bits.ensures.few c.from-count.ensures c.loop-s.invariant
+    known-more c.args.self.now c.args.chunk c.flip_flops-s-items.result.now c.loop-s.s-index _ c.loop-s-test.true c.pair-words.result c.known.result c.count_bits.result c.from-count.result c.loop-s.count
+    c.pair-words.ensures c.known.ensures c.count_bits.ensures.count c.count_bits.ensures.few c.from-count.ensures c.loop-s.invariant
 
 pub overflow_add-count : goal.overflow_add-count
 overflow_add-count c =

@@ -1,4 +1,4 @@
-use Rattle.known_planes.proofs.RowCounts.{literals-more}
+use Rattle.known_planes.proofs.SignalCounts.{literals-more}
 use Rattle.known_planes.proofs.planes.Planes.literals_in_chunk.Goals as goal
 
 pub loop-s-preserved : goal.loop-s-preserved

@@ -1,7 +1,7 @@
 use Rattle.std.proofs.Common.{◌⊎◌, ◌≡◌, map, sym, subst}
 use Rattle.std.specs.VecDeque.{deque_items}
 use Rattle.plain_close.specs.Queues.{Waiting, Waits, IsFirst}
-use Rattle.plain_close.proofs.WaitingRows.{same-invariant, push-invariant, pushed-waits, pushed-kept, pushed-only, pushed-first, queue-within, signal-within, place-is}
+use Rattle.plain_close.proofs.WaitingRows.{same-invariant, push-invariant, pushed-waits, pushed-kept, pushed-only, pushed-first, queue-within, signal-within, flag_index-is}
 use Rattle.plain_close.proofs.task_queues.TaskQueues.push.Goals as goal
 
 pub invariant_of-self : goal.invariant_of-self
@@ -14,9 +14,9 @@ pub invariant_of-self-2 : goal.invariant_of-self-2
 invariant_of-self-2 c =
     push-invariant deque_items c.self.inside.queues.items c.args.chunk c.index_mut.result.now c.push_back.new.self
     (queue-within deque_items c.self.inside.queues.items c.self.inside.signals c.args.self.now c.self.view_is c.args.chunk c.requires.chunk)
-    c.index_mut.ensures.value c.self.inside.signals c.self.inside.flags.items c.self.inside.current c.self.invariant c.args.target c.place-place.result c.in-Ok.ensures.items
+    c.index_mut.ensures.value c.self.inside.signals c.self.inside.flags.items c.self.inside.current c.self.invariant c.args.target c.flag_index-index.result c.in-Ok.ensures.items
     (signal-within deque_items c.self.inside.queues.items c.self.inside.signals c.args.self.now c.self.view_is c.args.target c.requires.target)
-    (place-is deque_items c.self.inside.queues.items c.self.inside.signals c.args.self.now c.self.view_is c.place-place.result c.args.chunk c.args.target c.place-place.ensures)
+    (flag_index-is deque_items c.self.inside.queues.items c.self.inside.signals c.args.self.now c.self.view_is c.flag_index-index.result c.args.chunk c.args.target c.flag_index-index.ensures)
 
 pub returns-clause-waits : goal.returns-clause-waits
 returns-clause-waits c =

@@ -13,12 +13,13 @@ use Rattle.sr_model.specs.declared.cells.Sig.{Sig}
 use Rattle.sr_model.specs.Netlist.{Driver, cell_at}
 use Rattle.sr_model.specs.Closure.{lit}
 use Rattle.unroll.specs.declared.words.PinWord.{PinWord}
-use Rattle.unroll.specs.Bits.{is_set, word_for}
+use Rattle.unroll.specs.Bits.{is_set, word_for, no_words}
 use Rattle.unroll.specs.Problem.{Unrolling, signals_in, chunks_in, block_at}
 use Rattle.unroll.proofs.lemmas.Words.{is_set_or}
-use Rattle.unroll.proofs.lemmas.Blocks.{block-chunk, block-within}
-use Rattle.known_planes.specs.Planes.{PlaneSet, no_bits, words_at, pair_in, has, IsOf}
+use Rattle.unroll.proofs.lemmas.Laws.{block-chunk, block-within}
+use Rattle.known_planes.specs.Planes.{PlaneSet, words_at, pair_in, has, IsOf}
 use Rattle.known_planes.specs.Counts.{bits_in, is_known, cells_where, known_count, literals_of, literal_count, known_bits_at, literal_bits_at}
+use Rattle.known_planes.proofs.BitCounts.{same-words}
 use Rattle.known_planes.proofs.Sums.{sum-agree, sum-moved, sum-parts, sum-more, sum-none, sum-agree_on, sum-turned, two-sums}
 
 plus-zero : (n : ℕ) → n + 0 ≡ n
@@ -36,13 +37,13 @@ times-zero w = grind arith
 suc-more : (k : ℕ) → suc k ≡ k + 1
 suc-more k = omega arith
 
--- a sum in rows of w
-pub rows-sum : (w : ℕ) (g : ℕ → ℕ) (k : ℕ) → sum_by (λ c. sum_by (λ i. g (w * c + i)) (range_with_len 0 w)) (range_with_len 0 k) ≡ sum_by g (range_with_len 0 (w * k))
-rows-sum w g zero = sym (ap (λ n. sum_by g (range_with_len 0 n)) (times-zero w))
-rows-sum w g (suc k) =
+-- a sum in parts of w
+pub parts-sum : (w : ℕ) (g : ℕ → ℕ) (k : ℕ) → sum_by (λ c. sum_by (λ i. g (w * c + i)) (range_with_len 0 w)) (range_with_len 0 k) ≡ sum_by g (range_with_len 0 (w * k))
+parts-sum w g zero = sym (ap (λ n. sum_by g (range_with_len 0 n)) (times-zero w))
+parts-sum w g (suc k) =
     ap (λ n. sum_by (λ c. sum_by (λ i. g (w * c + i)) (range_with_len 0 w)) (range_with_len 0 n)) (suc-more k)
     ∙ sum-more (λ c. sum_by (λ i. g (w * c + i)) (range_with_len 0 w)) k
-    ∙ ap (λ n. n + sum_by (λ i. g (w * k + i)) (range_with_len 0 w)) (rows-sum w g k)
+    ∙ ap (λ n. n + sum_by (λ i. g (w * k + i)) (range_with_len 0 w)) (parts-sum w g k)
     ∙ ap (λ n. sum_by g (range_with_len 0 (w * k)) + n) (sym (sum-moved g (w * k) 0 w))
     ∙ ap (λ n. sum_by g (range_with_len 0 (w * k)) + sum_by g (range_with_len n w)) (plus-zero (w * k) ∙ sym (zero-plus (w * k)))
     ∙ sym (sum-parts g 0 (w * k) w)
@@ -52,14 +53,14 @@ bits-as : (word : ℕ) (g : ℕ → ℕ) → ((i : ℕ) → i < 64 → cond (is_
 unfolding bits_in
 bits-as word g same = sum-agree (λ i. cond (is_set word i) 1 0) g 0 64 (λ i low high. same i high)
 
--- the bits of a row's words are the cycles that pass the test
-pub row-count : (x : ℕ → ℕ) (test : ℕ → Bool) (cycles chunks : ℕ) → chunks ≡ (cycles + 63) / 64
+-- the bits of a signal's words are the cycles that pass the test
+pub signal-count : (x : ℕ → ℕ) (test : ℕ → Bool) (cycles chunks : ℕ) → chunks ≡ (cycles + 63) / 64
     → ((c i : ℕ) → c < chunks → i < 64 → is_set (x c) i ≡ test (64 * c + i)) → ((t : ℕ) → cycles ≤ t → test t ≡ false)
     → sum_by (λ c. bits_in (x c)) (range_with_len 0 chunks) ≡ count_by test (range_with_len 0 cycles)
-row-count x test cycles chunks is bits late =
+signal-count x test cycles chunks is bits late =
     sum-agree (λ c. bits_in (x c)) (λ c. sum_by (λ i. g (64 * c + i)) (range_with_len 0 64)) 0 chunks
     (λ c low high. bits-as (x c) (λ i. g (64 * c + i)) (λ i few. ap (λ t. cond t 1 0) (bits c i (omega (arith, high)) few)))
-    ∙ rows-sum 64 g chunks
+    ∙ parts-sum 64 g chunks
     ∙ ap (λ n. sum_by g (range_with_len 0 n)) whole
     ∙ sum-parts g 0 cycles (64 * chunks - cycles)
     ∙ ap (λ n. sum_by g (range_with_len 0 cycles) + n) (sum-none g (0 + cycles) (64 * chunks - cycles) (λ t low high. ap (λ b. cond b 1 0) (late t (omega (arith, low)))))
@@ -91,14 +92,14 @@ module _ (u : Unrolling) (planes : PlaneSet) (of : IsOf u planes) (s : Sig) (h :
       ]
     where
       same : is_set (word_for bit (pair_in planes s.0 c)) i ≡ is_set (word_for bit (words_at planes (block_at u s c))) i
-      same = ap (λ n. is_set (word_for bit (get_or planes.words (s.0 * n + c) no_bits)) i) of.chunks
+      same = ap (λ n. is_set (word_for bit (get_or planes.words (s.0 * n + c) no_words)) i) of.chunks
 
   has-late : (bit : Bool) (t : ℕ) → u.cycles ≤ t → has u planes (lit (cell_at t s) bit) ≡ false
   has-late bit t late = ap (λ b. b && is_set (word_for bit (words_at planes (block_at u s (t / 64)))) (t % 64)) (le-ltb t u.cycles late)
 
-  pub known-row : sum_by (known_bits_at planes s.0) (range_with_len 0 planes.chunks) ≡ cells_where u.cycles (is_known (has u planes)) s
-  known-row =
-      row-count (λ c. bit_or (pair_in planes s.0 c).zero (pair_in planes s.0 c).one) (λ t. is_known (has u planes) (cell_at t s)) u.cycles planes.chunks of.chunks
+  pub known-signal : sum_by (known_bits_at planes s.0) (range_with_len 0 planes.chunks) ≡ cells_where u.cycles (is_known (has u planes)) s
+  known-signal =
+      signal-count (λ c. bit_or (pair_in planes s.0 c).zero (pair_in planes s.0 c).one) (λ t. is_known (has u planes) (cell_at t s)) u.cycles planes.chunks of.chunks
       (λ c i k few.
       let k_in : c < chunks_in u = subst (λ n. c < n) of.chunks k in
       is_set_or (pair_in planes s.0 c).zero (pair_in planes s.0 c).one i
@@ -106,14 +107,14 @@ module _ (u : Unrolling) (planes : PlaneSet) (of : IsOf u planes) (s : Sig) (h :
       ∙ ap (λ b. has u planes (lit (cell_at (64 * c + i) s) false) || b) (bit-has true c i k_in few))
       (λ t late. ap (λ b. b || has u planes (lit (cell_at t s) true)) (has-late false t late) ∙ has-late true t late)
 
-  pub literal-row : sum_by (literal_bits_at planes s.0) (range_with_len 0 planes.chunks) ≡ literals_of u planes s
-  literal-row =
+  pub literal-signal : sum_by (literal_bits_at planes s.0) (range_with_len 0 planes.chunks) ≡ literals_of u planes s
+  literal-signal =
       sym (two-sums (λ c. bits_in (pair_in planes s.0 c).zero) (λ c. bits_in (pair_in planes s.0 c).one) (range_with_len 0 planes.chunks))
       ∙ ap (λ n. n + sum_by (λ c. bits_in (pair_in planes s.0 c).one) (range_with_len 0 planes.chunks))
-      (row-count (λ c. (pair_in planes s.0 c).zero) (λ t. has u planes (lit (cell_at t s) false)) u.cycles planes.chunks of.chunks
+      (signal-count (λ c. (pair_in planes s.0 c).zero) (λ t. has u planes (lit (cell_at t s) false)) u.cycles planes.chunks of.chunks
       (λ c i k few. bit-has false c i (subst (λ n. c < n) of.chunks k) few) (has-late false))
       ∙ ap (λ n. cells_where u.cycles (λ c. has u planes (lit c false)) s + n)
-      (row-count (λ c. (pair_in planes s.0 c).one) (λ t. has u planes (lit (cell_at t s) true)) u.cycles planes.chunks of.chunks
+      (signal-count (λ c. (pair_in planes s.0 c).one) (λ t. has u planes (lit (cell_at t s) true)) u.cycles planes.chunks of.chunks
       (λ c i k few. bit-has true c i (subst (λ n. c < n) of.chunks k) few) (has-late true))
 
 -- the flip-flops are signals, and no more than there are
@@ -133,7 +134,7 @@ pub known-all : (u : Unrolling) (planes : PlaneSet) → IsOf u planes
 known-all u planes of =
     sum-turned (λ (s : Sig) chunk. known_bits_at planes s.0 chunk) (flip_flops u.circuit.drivers) (range_with_len 0 planes.chunks)
     ∙ sum-agree_on (λ (s : Sig). s.0 < signals_in u) (λ s. sum_by (known_bits_at planes s.0) (range_with_len 0 planes.chunks)) (cells_where u.cycles (is_known (has u planes))) (flip_flops u.circuit.drivers)
-    (flip_flops-within u.circuit.drivers) (λ s h. known-row u planes of s h)
+    (flip_flops-within u.circuit.drivers) (λ s h. known-signal u planes of s h)
 
 pub literals-all : (u : Unrolling) (planes : PlaneSet) → IsOf u planes
     → sum_by (λ chunk. sum_by (λ s. literal_bits_at planes s.0 chunk) (signals_below planes.signals)) (range_with_len 0 planes.chunks) ≡ literal_count u planes
@@ -141,7 +142,7 @@ literals-all u planes of =
     sum-turned (λ (s : Sig) chunk. literal_bits_at planes s.0 chunk) (signals_below planes.signals) (range_with_len 0 planes.chunks)
     ∙ ap (λ n. sum_by (λ s. sum_by (literal_bits_at planes s.0) (range_with_len 0 planes.chunks)) (signals_below n)) of.signals
     ∙ sum-agree_on (λ (s : Sig). s.0 < signals_in u) (λ s. sum_by (literal_bits_at planes s.0) (range_with_len 0 planes.chunks)) (literals_of u planes) (signals_below (signals_in u))
-    (signals_within (signals_in u)) (λ s h. literal-row u planes of s h)
+    (signals_within (signals_in u)) (λ s h. literal-signal u planes of s h)
 
 -- a signal more
 pub literals-more : (planes : PlaneSet) (chunk s : ℕ) (w : PinWord) (a b c d count : ℕ) → w ≡ pair_in planes s chunk → a ≡ bits_in w.zero → b ≡ bits_in w.one → a ≤ 64 → b ≤ 64 → c ≡ a → d ≡ b
@@ -156,13 +157,13 @@ literals-more planes chunk s w a b c d count is a_is b_is few_a few_b c_is d_is 
 )
 
 -- a flip-flop more
-pub known-more : (planes : PlaneSet) (chunk : ℕ) (ss : List Sig) (i : ℕ) (s : Sig) → i < length ss → (w : PinWord) (a b count : ℕ)
-    → w ≡ pair_in planes (get_or ss i s).0 chunk → a ≡ bits_in (bit_or w.zero w.one) → a ≤ 64 → b ≡ a
+pub known-more : (planes : PlaneSet) (chunk : ℕ) (ss : List Sig) (i : ℕ) (s : Sig) → i < length ss → (w : PinWord) (known a b count : ℕ)
+    → w ≡ pair_in planes (get_or ss i s).0 chunk → ((k : ℕ) → is_set known k ≡ (is_set w.zero k || is_set w.one k)) → a ≡ bits_in known → a ≤ 64 → b ≡ a
     → (count ≡ sum_by (λ t. known_bits_at planes t.0 chunk) (take i ss)) × (count ≤ 64 * i)
     → (count + b ≡ sum_by (λ t. known_bits_at planes t.0 chunk) (take (i + 1) ss)) × (count + b ≤ 64 * (i + 1))
-known-more planes chunk ss i s h w a b count is a_is few_a b_is before = (
+known-more planes chunk ss i s h w known a b count is known_is a_is few_a b_is before = (
   ap (λ n. n + b) before.0
-      ∙ ap (λ n. sum_by (λ t. known_bits_at planes t.0 chunk) (take i ss) + n) (b_is ∙ a_is ∙ ap (λ (x : PinWord). bits_in (bit_or x.zero x.one)) is)
+      ∙ ap (λ n. sum_by (λ t. known_bits_at planes t.0 chunk) (take i ss) + n) (b_is ∙ a_is ∙ ap bits_in (same-words known (bit_or w.zero w.one) (λ k. known_is k ∙ sym (is_set_or w.zero w.one k))) ∙ ap (λ (x : PinWord). bits_in (bit_or x.zero x.one)) is)
       ∙ sym (ap (sum_by (λ (t : Sig). known_bits_at planes t.0 chunk)) (take_more ss i s h) ∙ sum_by_push (λ (t : Sig). known_bits_at planes t.0 chunk) (take i ss) (get_or ss i s)),
   omega (arith, few_a, b_is, before.1),
 )

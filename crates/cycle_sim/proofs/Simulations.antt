@@ -20,7 +20,7 @@ use Rattle.cycle_sim.specs.Laws.{SimulationExists, SimulationsAgree, SimulationH
 use Rattle.cycle_sim.specs.Simulation.{IsSimulated, AgreeOnCells, AgreeOnInputs, traced_row, traced_rows}
 use Rattle.cycle_sim.proofs.Existing.{found, found-simulated}
 use Rattle.cycle_sim.proofs.FrameSteps.{flip_flop-pin, flip_flop-value, gate-value, not-gate, pin-within, value-same}
-use Rattle.cycle_sim.proofs.GateRows.{its-pins}
+use Rattle.cycle_sim.proofs.GateOutputs.{its-pins}
 use Rattle.cycle_sim.proofs.PinOrder.{rank-below}
 
 -- ---- there is one

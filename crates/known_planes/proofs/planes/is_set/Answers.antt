@@ -1,5 +1,0 @@
-use Rattle.known_planes.proofs.BitCounts.{tested}
-use Rattle.known_planes.proofs.planes.is_set.Goals as goal
-
-pub returns : goal.returns
-returns c = tested c.args.word c.args.i
