@@ -148,24 +148,35 @@ fn other_readers_and_parities(rt: HostRuntime) -> Result<(), Fail> {
         Row::Drive(b"n", Kind::Nand, &[b"a", b"b", b"a"]),
         Row::Drive(b"m", Kind::Not, &[b"q"]),
     ];
-    // the other readers, the signals of what drives the signal, and which of them stand an odd number of times among the pins
-    let cases: [(&[Sig], &[Sig], &[bool]); 7] = [
-        (&[Sig(2), Sig(3), Sig(5)], &[], &[]),
-        (&[Sig(2), Sig(5)], &[], &[]),
-        (&[], &[Sig(0), Sig(1), Sig(2)], &[false, true, false]),
-        (&[], &[Sig(0), Sig(3)], &[false, false]),
-        (&[Sig(6)], &[Sig(4)], &[true]),
-        (&[], &[Sig(0), Sig(1), Sig(5)], &[false, true, false]),
-        (&[], &[Sig(4), Sig(6)], &[true, false]),
+    // the other readers, the signals of what drives the signal, which of them stand an odd number of times among the pins, and where each pin stands
+    let cases: [(&[Sig], &[Sig], &[bool], &[u16]); 7] = [
+        (&[Sig(2), Sig(3), Sig(5)], &[], &[], &[]),
+        (&[Sig(2), Sig(5)], &[], &[], &[]),
+        (
+            &[],
+            &[Sig(0), Sig(1), Sig(2)],
+            &[false, true, false],
+            &[0, 0, 1],
+        ),
+        (&[], &[Sig(0), Sig(3)], &[false, false], &[0, 0]),
+        (&[Sig(6)], &[Sig(4)], &[true], &[0]),
+        (
+            &[],
+            &[Sig(0), Sig(1), Sig(5)],
+            &[false, true, false],
+            &[0, 1, 0],
+        ),
+        (&[], &[Sig(4), Sig(6)], &[true, false], &[0]),
     ];
     let statements = statements_of(rt.alloc(), &rows)?;
     let netlist = built(&rt, rt.alloc(), &statements)?;
     assert!(rt; netlist.signals() == 7);
-    for (number, (others, signals, parities)) in cases.iter().enumerate() {
+    for (number, (others, signals, parities, places)) in cases.iter().enumerate() {
         let sig = Sig(number as u32);
         assert_eq!(rt; netlist.other_readers(sig), *others);
         assert_eq!(rt; netlist.signals_of(sig), *signals);
         assert_eq!(rt; netlist.pin_parities(sig), *parities);
+        assert_eq!(rt; netlist.pin_places(sig), *places);
     }
     Ok(())
 }
