@@ -7,20 +7,12 @@ use Rattle.sr_model.specs.declared.cells.Cell.{Cell}
 use Rattle.netlist.specs.Circuit.{Circuit}
 use Rattle.ratio.specs.Ratio.{Counts, in_thousandths}
 use Rattle.report.specs.Clash.{clash_line}
-use Rattle.report.specs.declared.refusal.Part.{Part}
 use Rattle.report.specs.declared.refusal.Part.TheVariants as parts
-use Rattle.report.specs.InputRefusals.{name_of, refused_line}
+use Rattle.report.specs.InputRefusals.{refused_line}
 use Rattle.report.specs.Load.{load_line}
 use Rattle.report.specs.Table.{ratio_text}
 
--- the pieces of the line of a refusal
-pub refused_joined : (part : Part) (line : ℕ) (name digits why : List ℕ) → name ≡ name_of part → digits ≡ decimal line
-    → codes "srestore: " ++ (name ++ (codes " line " ++ (digits ++ (why ++ [])))) ≡ refused_line part line why
-refused_joined part line name digits why same_name same_digits =
-    ap (λ n. codes "srestore: " ++ (n ++ (codes " line " ++ (digits ++ (why ++ []))))) same_name
-    ∙ ap (λ d. codes "srestore: " ++ (name_of part ++ (codes " line " ++ (d ++ (why ++ []))))) same_digits ∙ ap (λ w. codes "srestore: " ++ (name_of part ++ (codes " line " ++ (decimal line ++ w)))) (append-nil why)
-    ∙ simp append_assoc
-
+-- the pieces of the lines of refusals
 pub cells_joined : (line product : ℕ) (digits more : List ℕ) → digits ≡ decimal line → more ≡ decimal product
     → codes "srestore: dump line " ++ (digits ++ (codes ": 17 too many cells " ++ (more ++ (codes "\n" ++ [])))) ≡ refused_line parts.Dump line (codes ": 17 too many cells " ++ decimal product ++ codes "\n")
 cells_joined line product digits more same_line same_product =

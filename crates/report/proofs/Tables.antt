@@ -9,6 +9,7 @@ use Rattle.std.proofs.lemmas.List.Concat.{flat_map-append}
 use Rattle.std.proofs.lemmas.List.Elements.{All-filter, All-from_get_or, All-get_or}
 use Rattle.std.proofs.lemmas.List.Folds.{flat_map-map}
 use Rattle.std.proofs.lemmas.List.FromFn.{get_or-map-range_with_len, length-map-range_with_len, map-range_with_len_more, take-map-range_with_len}
+use Rattle.sr_text.specs.Lines.{with_line_feed}
 use Rattle.sr_text.specs.Numbers.{put_front}
 use Rattle.sr_model.specs.Netlist.{Driver}
 use Rattle.netlist.specs.Wiring.{driver_at, is_flip_flop, flip_flops, signals_below}
@@ -17,9 +18,9 @@ use Rattle.sr_model.specs.declared.cells.Sig.{Sig}
 use Rattle.sr_model.specs.declared.cells.Lit.{Lit}
 use Rattle.sr_model.specs.Dump.{Row}
 use Rattle.netlist.specs.Circuit.{Circuit}
-use Rattle.sr_text.specs.Lines.{with_line_feed}
+use Rattle.dump_reader.specs.Head.{head_text}
 use Rattle.dump_reader.specs.Print.{row_text, printed}
-use Rattle.report.specs.Rows.{head_text, row_lines}
+use Rattle.report.specs.Rows.{row_lines}
 use Rattle.known_planes.specs.Counts.{known_count}
 use Rattle.report.specs.Table.{known_row, ratio_line, shown, table_text}
 

@@ -1,7 +1,6 @@
 -- The parts of which the text of a table is made.
-use Rattle.std.specs.Prelude.{ℕ, Bool, true, false, List, ◌++◌, map, codes, Option, Some, None, if◌then◌else◌}
+use Rattle.std.specs.Prelude.{ℕ, Bool, true, false, List, map, Option, Some, None, if◌then◌else◌}
 use Rattle.std.specs.List.{flat_map, range_with_len}
-use Rattle.std.specs.Fmt.{decimal}
 use Rattle.sr_model.specs.declared.cells.Sig.{Sig}
 use Rattle.sr_model.specs.declared.cells.Lit.{Lit}
 use Rattle.netlist.specs.Circuit.{Circuit}
@@ -10,10 +9,6 @@ use Rattle.dump_reader.specs.Print.{bit_character, row_text}
 use Rattle.unroll.specs.declared.words.PinWord.{PinWord}
 use Rattle.unroll.specs.Bits.{is_set}
 use Rattle.report.specs.Table.{known_bit, known_row}
-
--- the lines before the rows
-abbrev pub head_text : ℕ → List ℕ
-head_text cycles = codes "srdump 1\ncycles " ++ decimal cycles ++ codes "\n"
 
 -- the line of a signal
 abbrev pub row_line : Circuit → ℕ → (Lit → Bool) → Sig → List ℕ

@@ -3,7 +3,7 @@ ghost use Rattle.std.specs.Prelude.{◌<◌, length};
 ghost use Rattle.report.specs.Clash.{clash_line};
 ghost use Rattle.report.specs.Writes.{Writes};
 
-use crate::pieces::write_pieces;
+use crate::pieces::{digits, write_pieces};
 use itoa::Buffer;
 use netlist::Netlist;
 use sr_model::Cell;
@@ -18,9 +18,6 @@ pub fn write_clash<K: Sink>(n: &Netlist, cell: Cell, out: &mut K) -> Result<(), 
     let space: &[u8] = b" ";
     let end: &[u8] = b"\n";
     let mut buffer = Buffer::new();
-    let digits = buffer.format(cell.cycle);
-    write_pieces(
-        out,
-        &[start, n.name(cell.sig), space, digits.as_bytes(), end],
-    )
+    let number = digits(&mut buffer, u64::from(cell.cycle));
+    write_pieces(out, &[start, n.name(cell.sig), space, number, end])
 }

@@ -2,7 +2,7 @@
 ghost use Rattle.report.specs.Load.{load_line};
 ghost use Rattle.report.specs.Writes.{Writes};
 
-use crate::pieces::write_pieces;
+use crate::pieces::{digits, write_pieces};
 use crate::ratio_text::put_ratio;
 use itoa::Buffer;
 use ratio::Ratio;
@@ -32,25 +32,25 @@ pub fn write_load<K: Sink>(
     let mut traced_buffer = Buffer::new();
     let mut known_buffer = Buffer::new();
     let mut ratio_buffer = [0; 24];
-    let number_digits = number_buffer.format(number);
-    let signals_digits = signals_buffer.format(signals);
-    let flip_flops_digits = flip_flops_buffer.format(flip_flops);
-    let traced_digits = traced_buffer.format(ratio.traced());
-    let known_digits = known_buffer.format(ratio.known());
+    let number_digits = digits(&mut number_buffer, number);
+    let signals_digits = digits(&mut signals_buffer, u64::from(signals));
+    let flip_flops_digits = digits(&mut flip_flops_buffer, u64::from(flip_flops));
+    let traced_digits = digits(&mut traced_buffer, ratio.traced());
+    let known_digits = digits(&mut known_buffer, ratio.known());
     let ratio_len = put_ratio(ratio, &mut ratio_buffer);
     write_pieces(
         out,
         &[
             load_is,
-            number_digits.as_bytes(),
+            number_digits,
             signals_are,
-            signals_digits.as_bytes(),
+            signals_digits,
             flip_flops_are,
-            flip_flops_digits.as_bytes(),
+            flip_flops_digits,
             traced_are,
-            traced_digits.as_bytes(),
+            traced_digits,
             known_are,
-            known_digits.as_bytes(),
+            known_digits,
             ratio_is,
             &ratio_buffer[..ratio_len],
             end,

@@ -1,7 +1,10 @@
 //! Writing a text whole or piece by piece.
+ghost use Rattle.std.specs.Prelude.{◌≡◌};
+ghost use Rattle.std.specs.Fmt.{decimal};
 ghost use Rattle.report.specs.Joined.{joined};
 ghost use Rattle.report.specs.Writes.{Writes};
 
+use itoa::Buffer;
 use sr_outside::{Sink, WriteFault, write_all};
 
 /// Writes the text, in as few puts as the sink allows. It takes no memory.
@@ -22,4 +25,11 @@ pub(crate) fn write_pieces<K: Sink>(out: &mut K, pieces: &[&[u8]]) -> Result<(),
         }
     }
     Ok(())
+}
+
+/// The decimal form of a number, in the buffer's room.
+pub(crate) fn digits(buffer: &mut Buffer, number: u64) -> &[u8]
+    ensures { result.now ≡ decimal number }
+{
+    buffer.format(number).as_bytes()
 }

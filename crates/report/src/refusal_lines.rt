@@ -4,7 +4,7 @@ ghost use Rattle.std.specs.Fmt.{decimal};
 ghost use Rattle.report.specs.InputRefusals.{name_of, too_long_line, refused_line, bench_line, net_line, dump_line, fault_line};
 ghost use Rattle.report.specs.Writes.{Writes};
 
-use crate::pieces::{write_pieces, write_text};
+use crate::pieces::{digits, write_pieces, write_text};
 use crate::refusal::Part;
 use bench_reader::BenchRefusal;
 use dump_reader::DumpRefusal;
@@ -134,8 +134,8 @@ fn write_refused_line<K: Sink>(
     let start: &[u8] = b"srestore: ";
     let at: &[u8] = b" line ";
     let mut buffer = Buffer::new();
-    let digits = buffer.format(line);
-    write_pieces(out, &[start, part.name(), at, digits.as_bytes(), why])
+    let number = digits(&mut buffer, line);
+    write_pieces(out, &[start, part.name(), at, number, why])
 }
 
 /// Writes that a dump has too many cells.
@@ -146,13 +146,10 @@ fn write_too_many_cells<K: Sink>(out: &mut K, line: u64, product: u64) -> Result
     let why: &[u8] = b": 17 too many cells ";
     let end: &[u8] = b"\n";
     let mut line_buffer = Buffer::new();
-    let line_digits = line_buffer.format(line);
+    let line_digits = digits(&mut line_buffer, line);
     let mut buffer = Buffer::new();
-    let digits = buffer.format(product);
-    write_pieces(
-        out,
-        &[start, line_digits.as_bytes(), why, digits.as_bytes(), end],
-    )
+    let number = digits(&mut buffer, product);
+    write_pieces(out, &[start, line_digits, why, number, end])
 }
 
 /// Writes that nothing drives a signal.
@@ -172,6 +169,6 @@ fn write_loop<K: Sink>(out: &mut K, name: &[u8], length: u32) -> Result<(), Writ
     let space: &[u8] = b" ";
     let end: &[u8] = b"\n";
     let mut buffer = Buffer::new();
-    let digits = buffer.format(length);
-    write_pieces(out, &[start, name, space, digits.as_bytes(), end])
+    let number = digits(&mut buffer, u64::from(length));
+    write_pieces(out, &[start, name, space, number, end])
 }

@@ -8,18 +8,20 @@ ghost use Rattle.ratio.specs.Ratio.{in_thousandths};
 ghost use Rattle.unroll.specs.Bits.{is_set};
 ghost use Rattle.unroll.specs.Problem.{signals_in};
 ghost use Rattle.known_planes.specs.Planes.{IsOf, has, lits};
-ghost use Rattle.report.specs.Rows.{head_text, row_line, row_lines, cells_text, word_bit, word_text};
+ghost use Rattle.dump_reader.specs.Head.{head_text};
+ghost use Rattle.report.specs.Rows.{row_line, row_lines, cells_text, word_bit, word_text};
 ghost use Rattle.report.specs.Table.{ratio_line, ratio_text, shown, table_text};
 ghost use Rattle.report.specs.Writes.{Writes};
 
-use crate::pieces::{write_pieces, write_text};
+use crate::pieces::{digits, write_pieces, write_text};
 use crate::ratio_text::put_ratio;
 use crate::row_buf::RowBuf;
+use dump_reader::HEAD_START;
+use itoa::Buffer;
 use known_planes::Planes;
 use ratio::Ratio;
 use sr_model::Sig;
 use sr_outside::{Sink, WriteFault};
-use sr_text::write_u64;
 use unroll::{InChunk, PinWord, Problem};
 
 /// Writes the table of the known literals: a row for each signal in ascending number, or for each flip-flop, with `0`, `1` or `x` for each cycle, and the line with
@@ -48,11 +50,10 @@ pub fn write_table<K: Sink>(
 fn write_head<K: Sink>(p: &Problem, out: &mut K) -> Result<(), WriteFault>
     ensures { Writes K.written K.room K.faults out.old out.new result (head_text p.now.cycles) }
 {
-    let mut digits = [0; 20];
-    let len = write_u64(u64::from(p.cycles()), &mut digits);
-    let start: &[u8] = b"srdump 1\ncycles ";
     let end: &[u8] = b"\n";
-    write_pieces(out, &[start, &digits[..len], end])
+    let mut buffer = Buffer::new();
+    let cycles = digits(&mut buffer, u64::from(p.cycles()));
+    write_pieces(out, &[HEAD_START, cycles, end])
 }
 
 /// Writes the rows of all signals or of the flip-flops, in ascending number.
@@ -206,11 +207,11 @@ fn write_ratio_line<K: Sink>(known: u64, traced: u64, out: &mut K) -> Result<(),
     requires traced { traced ≤ 536870912 }
     ensures { Writes K.written K.room K.faults out.old out.new result (ratio_line traced known) }
 {
-    let mut traced_digits = [0; 20];
-    let mut known_digits = [0; 20];
+    let mut traced_buffer = Buffer::new();
+    let mut known_buffer = Buffer::new();
     let mut ratio_digits = [0; 24];
-    let traced_len = write_u64(traced, &mut traced_digits);
-    let known_len = write_u64(known, &mut known_digits);
+    let traced_digits = digits(&mut traced_buffer, traced);
+    let known_digits = digits(&mut known_buffer, known);
     let ratio_len = put_ratio(&Ratio::new(known, traced), &mut ratio_digits);
     let traced_is: &[u8] = b"# traced ";
     let known_is: &[u8] = b" known ";
@@ -220,9 +221,9 @@ fn write_ratio_line<K: Sink>(known: u64, traced: u64, out: &mut K) -> Result<(),
         out,
         &[
             traced_is,
-            &traced_digits[..traced_len],
+            traced_digits,
             known_is,
-            &known_digits[..known_len],
+            known_digits,
             ratio_is,
             &ratio_digits[..ratio_len],
             end,

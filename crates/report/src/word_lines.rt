@@ -4,7 +4,7 @@ ghost use Rattle.std.specs.String.{string_bytes};
 ghost use Rattle.report.specs.Refusals.{HasItem, IsKeyed, WordIsThere, item_of, key_of, many_cells_line, listed_names, word_line};
 ghost use Rattle.report.specs.Writes.{Writes};
 
-use crate::pieces::{write_pieces, write_text};
+use crate::pieces::{digits, write_pieces, write_text};
 use crate::refusal::WordRefusal;
 use itoa::Buffer;
 use sr_outside::{Sink, WriteFault};
@@ -52,8 +52,8 @@ pub(crate) fn write_many_cells<K: Sink>(out: &mut K, product: u64) -> Result<(),
     let start: &[u8] = b"srestore: words: 17 too many cells ";
     let end: &[u8] = b"\n";
     let mut buffer = Buffer::new();
-    let digits = buffer.format(product);
-    write_pieces(out, &[start, digits.as_bytes(), end])
+    let number = digits(&mut buffer, product);
+    write_pieces(out, &[start, number, end])
 }
 
 /// The key of a word `key=value`.

@@ -1,8 +1,8 @@
 -- What is told over several puts.
-use Rattle.std.proofs.Common.{◌≡◌, ℕ, ◌+◌, ◌-◌, List, ◌++◌, length, take, drop, Option, None, Some, ◌∙◌, ap, sym, arith, append_assoc, length-drop}
+use Rattle.std.proofs.Common.{◌≡◌, ℕ, ◌+◌, ◌-◌, List, ◌++◌, length, take, drop, Option, None, Some, ◌∙◌, ap, arith, append_assoc, length-drop}
 use Rattle.std.proofs.Math.Seq.{take-add}
 use Rattle.std.proofs.lemmas.Grind.{common_steps}
-use Rattle.std.specs.Io.KnownBytes.{append_known, Consumes}
+use Rattle.std.specs.Io.KnownBytes.{append_known}
 
 append_known-append : (start now later : Option (List ℕ)) (front piece : List ℕ)
     → now ≡ append_known start front → later ≡ append_known now piece
@@ -22,12 +22,3 @@ pub append_known-take : (start now later : Option (List ℕ)) (done count : ℕ)
     → later ≡ append_known start (take (done + count) piece)
 append_known-take start now later done count piece p q =
     append_known-append start now later _ _ p q ∙ ap (append_known start) (one_more done count piece)
-
--- what was read before, and then what was read
-pub Consumes-append : (start now later : Option (List ℕ)) (front piece : List ℕ)
-    → Consumes start now front → Consumes now later piece → Consumes start later (front ++ piece)
-Consumes-append None now later front piece p q = tt
-Consumes-append (Some bytes) None later front piece p q = absurd p
-Consumes-append (Some bytes) (Some rest) None front piece p q = absurd q
-Consumes-append (Some bytes) (Some rest) (Some last) front piece p q =
-    p ∙ ap (λ l. front ++ l) q ∙ sym (append_assoc front piece last)

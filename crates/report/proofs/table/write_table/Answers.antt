@@ -1,7 +1,8 @@
 use Rattle.std.proofs.Common.{[], ◌++◌, sym, ap, subst, ◌∙◌}
 use Rattle.std.proofs.lemmas.Result.{err_from_is_err_and}
 use Rattle.known_planes.specs.Planes.{has}
-use Rattle.report.specs.Rows.{head_text, row_lines}
+use Rattle.dump_reader.specs.Head.{head_text}
+use Rattle.report.specs.Rows.{row_lines}
 use Rattle.report.specs.Table.{ratio_line, shown}
 use Rattle.report.specs.Writes.{Writes}
 use Rattle.report.proofs.InTurn.{writes_both, writes_fault, wrote_none, wrote_whole}

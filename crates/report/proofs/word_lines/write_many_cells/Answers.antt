@@ -1,4 +1,4 @@
-use Rattle.std.proofs.Common.{◌∙◌, ◌++◌, ap, subst}
+use Rattle.std.proofs.Common.{◌++◌, ap, subst}
 use Rattle.std.specs.Prelude.{codes}
 use Rattle.report.specs.Writes.{Writes}
 use Rattle.report.proofs.word_lines.write_many_cells.Goals as goal
@@ -6,4 +6,4 @@ use Rattle.report.proofs.word_lines.write_many_cells.Goals as goal
 pub returns : goal.returns
 returns g c =
     subst (Writes g.K.Sink.written g.K.Sink.room g.K.Sink.faults c.args.out.now c.write_pieces.new.out c.write_pieces.result)
-    (ap (λ digits. codes "srestore: words: 17 too many cells " ++ digits ++ codes "\n") (c.as_bytes.ensures.value ∙ c.format-digits.ensures.text)) c.write_pieces.ensures
+    (ap (λ digits. codes "srestore: words: 17 too many cells " ++ digits ++ codes "\n") c.digits-number.ensures) c.write_pieces.ensures
