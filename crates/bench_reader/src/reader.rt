@@ -10,9 +10,9 @@ ghost use Rattle.bench_reader.specs.Found.{form_with};
 
 use crate::form::{Form, read_form};
 use crate::kinds::kind_named;
-use sr_model::{Bytes, Names, NoMemory, Numbered, Sequence, Statement, Statements};
+use sr_model::{Names, NoMemory, Numbered, Sequence, Statement, Statements, to_bytes};
 use sr_text::TextLines;
-use std::alloc::{AllocError, Global};
+use std::alloc::Global;
 
 const MAX_NAME_BYTES: usize = 255;
 
@@ -128,15 +128,6 @@ fn to_statement(
             let pins = to_names(alloc, pins)?;
             Ok(Statement::Drive { target, kind, pins })
         }
-    }
-}
-
-fn to_bytes(alloc: Global, name: &[u8]) -> Result<Bytes, NoMemory>
-    ensures { IfOk result (λ bytes. bytes.items ≡ name.now) }
-{
-    match Vec::from_slice(alloc, name) {
-        Ok(bytes) => Ok(Sequence::from_vec(bytes)),
-        Err(AllocError) => Err(NoMemory),
     }
 }
 

@@ -1,5 +1,6 @@
 //! What is known of the signals, as a table.
 ghost use Rattle.std.specs.Prelude.{◌≡◌, ◌<◌, ◌≤◌, ◌+◌, ◌++◌, length, take};
+ghost use Rattle.sr_model.specs.Limits.{max_cells};
 ghost use Rattle.sr_model.specs.Decisions.{IsConsistent};
 ghost use Rattle.sr_text.specs.Numbers.{put_front};
 ghost use Rattle.netlist.specs.Wiring.{flip_flops, signals_below};
@@ -38,7 +39,7 @@ pub fn write_table<K: Sink>(
 ) -> Result<(), WriteFault>
     requires of { IsOf p.now planes.now }
     requires no_clash { IsConsistent (lits p.now planes.now) }
-    requires traced { traced ≤ 536870912 }
+    requires traced { traced ≤ max_cells }
     ensures { Writes K.written K.room K.faults out.old out.new result (table_text p.now.circuit p.now.cycles (has p.now planes.now) traced all) }
 {
     write_head(p, out)?;
@@ -203,8 +204,8 @@ fn character(words: PinWord, i: u32) -> u8
 
 /// Writes how many flip-flop cells were traced and are known, and their ratio.
 fn write_ratio_line<K: Sink>(known: u64, traced: u64, out: &mut K) -> Result<(), WriteFault>
-    requires known { known ≤ 536870912 }
-    requires traced { traced ≤ 536870912 }
+    requires known { known ≤ max_cells }
+    requires traced { traced ≤ max_cells }
     ensures { Writes K.written K.room K.faults out.old out.new result (ratio_line traced known) }
 {
     let mut traced_buffer = Buffer::new();

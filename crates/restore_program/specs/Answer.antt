@@ -28,7 +28,6 @@ use Rattle.report.specs.InputRefusals.{bench_line, dump_line, net_line, too_long
 use Rattle.report.specs.Refusals.{word_line}
 use Rattle.known_planes.specs.Counts.{known_count}
 use Rattle.report.specs.Table.{table_text}
-use Rattle.restore_program.specs.declared.netlists.TheConstants.{MAX_BYTES}
 use Rattle.restore_program.specs.declared.status.Status.{Status}
 use Rattle.restore_program.specs.declared.status.Status.TheVariants as statuses
 use Rattle.restore_program.specs.Loading.{IsLoadText}
@@ -38,8 +37,8 @@ use Rattle.restore_program.specs.Tracing.{OnTrace}
 
 -- the most bytes of an input
 abbrev pub most_bytes : Part → ℕ
-most_bytes parts.Netlist = MAX_BYTES
-most_bytes parts.Dump = MAX_BYTES
+most_bytes parts.Netlist = 16777216
+most_bytes parts.Dump = 16777216
 
 -- ---- a netlist's text
 

@@ -1,5 +1,6 @@
 -- What follows from a dump.
 use Rattle.std.specs.Prelude.{ℕ, ◌≡◌, ◌<◌, ◌≤◌, List}
+use Rattle.sr_model.specs.Limits.{max_cells}
 use Rattle.sr_model.specs.declared.cells.Cell.{Cell}
 use Rattle.sr_model.specs.Closure.{HasBoth, IsClash, SameLits, passing}
 use Rattle.sr_model.specs.Dump.{Known, Row, dump_has}
@@ -17,7 +18,7 @@ pub record IsKnown (u : Unrolling) (rows : List Row) (planes : PlaneSet) : Type 
 
 -- so many cells of flip-flops have a bit in the rows
 abbrev pub IsTraced : Unrolling → List Row → ℕ → Type 0
-IsTraced u rows traced = (traced ≡ known_count u.circuit u.cycles (dump_has rows)) × (traced ≤ 536870912)
+IsTraced u rows traced = (traced ≡ known_count u.circuit u.cycles (dump_has rows)) × (traced ≤ max_cells)
 
 -- the least cell with both literals in the first level that has one
 abbrev pub IsFirstClash : Unrolling → List Row → Cell → Type 0

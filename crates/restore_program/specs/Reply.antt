@@ -8,7 +8,7 @@ use Rattle.netlist.specs.declared.checks.NetRefusal.{NetRefusal}
 use Rattle.netlist.specs.declared.checks.NetRefusal.TheVariants as net
 use Rattle.dump_reader.specs.declared.refusal.DumpRefusal.{DumpRefusal}
 use Rattle.dump_reader.specs.declared.refusal.DumpRefusal.TheVariants as dumps
-use Rattle.sr_model.specs.Limits.{block_count, max_blocks}
+use Rattle.sr_model.specs.Limits.{block_count, max_blocks, max_cells}
 use Rattle.dump_reader.specs.Recording.{IsCount}
 use Rattle.unroll.specs.Problem.{Unrolling}
 use Rattle.known_planes.specs.Planes.{IsOf, has}
@@ -37,7 +37,7 @@ pub record IsTable (table : Table) : Type 0 where
   pub few : block_count (length table.netlist.drivers) table.cycles ≤ max_blocks
   pub of : IsOf (unrolling_of table) table.planes
   pub no_clash : (cell : Cell) → HasBoth (passing (has (unrolling_of table) table.planes)) cell → ⊥
-  pub traced : table.traced ≤ 536870912
+  pub traced : table.traced ≤ max_cells
 
 -- how a run ends with a result
 abbrev pub IsResult : Status → Type 0

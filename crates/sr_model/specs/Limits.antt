@@ -1,30 +1,29 @@
--- How large a netlist and a dump may be. Each number stands once, as a constant of the code.
+-- How large a netlist and a dump may be.
 use Rattle.std.specs.Prelude.{ℕ, ◌+◌, ◌*◌, ◌/◌}
-use Rattle.sr_model.specs.declared.limits.TheConstants.{MAX_SIGNALS, MAX_GATE_PINS, MAX_GATE_SIGNALS, MAX_PINS, MAX_CYCLES, MAX_BLOCKS}
 
 -- signals of a netlist
 abbrev pub max_signals : ℕ
-max_signals = MAX_SIGNALS
+max_signals = 65536
 
 -- pins of a gate
 abbrev pub max_gate_pins : ℕ
-max_gate_pins = MAX_GATE_PINS
+max_gate_pins = 1024
 
 -- signals of a gate: its target and its pins
 abbrev pub max_gate_signals : ℕ
-max_gate_signals = MAX_GATE_SIGNALS
+max_gate_signals = 1025
 
 -- pins of a netlist, over all its gates and flip-flops
 abbrev pub max_pins : ℕ
-max_pins = MAX_PINS
+max_pins = 1048576
 
 -- cycles of a dump
 abbrev pub max_cycles : ℕ
-max_cycles = MAX_CYCLES
+max_cycles = 8192
 
 -- blocks of a netlist over a number of cycles: its signals, times the chunks of 64 cycles
 abbrev pub max_blocks : ℕ
-max_blocks = MAX_BLOCKS
+max_blocks = 4194304
 
 -- cells of a netlist over a number of cycles
 abbrev pub max_cells : ℕ
