@@ -1,15 +1,25 @@
 -- Words that give a key a value, in the terms of the lines of refusals.
-use Rattle.std.proofs.Common.{◌≡◌, ◌≢◌, ◌+◌, ℕ, List, [], ◌∷◌, ◌++◌, length, get_or, take, drop, Some, sym, ap, subst, ◌∙◌, arith}
+use Rattle.std.proofs.Common.{◌≡◌, ◌≢◌, ◌+◌, ℕ, List, [], ◌∷◌, ◌++◌, length, get_or, drop, Some, sym, ap, subst, ◌∙◌, arith}
 use Rattle.std.proofs.lemmas.Bool.Decides.{nat_tests}
 use Rattle.std.specs.Prelude.{All, ◌==◌}
 use Rattle.std.specs.List.{after_first, position_or_len, slice_get, slice_split}
-use Rattle.std.proofs.Math.Seq.{drop-append-add, get_or-append_seam, take-append_seam}
+use Rattle.std.proofs.Math.Seq.{drop-append-add, get_or-append_seam}
 use Rattle.std.proofs.lemmas.List.{get_or_append_left, length-append}
 use Rattle.std.proofs.lemmas.List.Sums.{position_or_len_is}
 use Rattle.std.proofs.lemmas.Option.{get_or_from_slice_get, slice_get_within}
-use Rattle.report.specs.Refusals.{HasKey, IsKeyed, key_of, listed_names, word_at}
+use Rattle.report.specs.Refusals.{HasKey, IsKeyed, listed_names, word_at}
 use Rattle.restore_program.specs.TraceRefusals.{HasListAt}
 use Rattle.restore_program.specs.Words.{CommandRule, Gives, IsBadAt, IsBadNumber, trace_rule}
+
+pub gift_keyed : (word key value : List ℕ) → Gives word key value → IsKeyed word
+gift_keyed word key value g = (key, value, g.spelled)
+
+-- the first `=` is the one behind the key
+key_end : (key value : List ℕ) → All (λ b. b ≢ 61) key → position_or_len (λ b. b == 61) (key ++ 61 ∷ value) ≡ length key
+key_end key value first =
+    position_or_len_is (λ b. b == 61) (key ++ 61 ∷ value) (length key) 0 (omega (arith, length-append key (61 ∷ value)))
+    (λ k less. let other = first k 0 less in let here : get_or (key ++ 61 ∷ value) k 0 ≡ get_or key k 0 = get_or_append_left key (61 ∷ value) 0 k less in grind (arith, nat_tests))
+    (λ _. ap (λ b. b == 61) (get_or-append_seam key 61 value 0))
 
 gift_value : (word key value : List ℕ) → Gives word key value → after_first (λ b. b == 61) word ≡ value
 gift_value word key value g =

@@ -9,7 +9,6 @@ use Rattle.sr_model.specs.Order.{CellLe}
 use Rattle.sr_model.specs.Closure.{HasBoth, SameLits, level, lit, passing}
 use Rattle.sr_model.proofs.lemmas.Laws.{level_in_Closure}
 use Rattle.sr_outside.specs.Told.{Held}
-use Rattle.bench_reader.specs.Grammar as grammar
 use Rattle.bench_reader.proofs.lemmas.Laws as texts
 use Rattle.netlist.specs.Circuit.{Circuit, IsCircuit, circuit_of, unrolled_over}
 use Rattle.std.specs.Fmt.{decimal}

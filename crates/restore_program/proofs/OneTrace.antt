@@ -3,7 +3,6 @@ use Rattle.std.proofs.Common.{ℕ, ◌≡◌, ◌<◌, ◌≤◌, ◌⊎◌, ◌
 use Rattle.std.specs.List.{All, Contains, slice_get}
 use Rattle.std.proofs.Math.Seq.{get_or-append_seam}
 use Rattle.std.proofs.lemmas.List.{get_or_append_left, get_or-map, length-append, length-map}
-
 use Rattle.std.proofs.lemmas.Option.{get_or_from_slice_get, slice_get_within}
 use Rattle.sr_model.specs.declared.cells.Sig.{Sig}
 use Rattle.netlist.specs.Circuit.{Circuit, IsCircuit}
@@ -25,7 +24,7 @@ module _ (c : Circuit) where
   -- a name that is listed is that of a signal
   its-signal : (names : List (List ℕ)) (sigs : List Sig) → map name_of_signal sigs ≡ map Some names → (name : List ℕ) → Contains names name → (sig : Sig) × (name_of_signal sig ≡ Some name)
   its-signal names sigs same name (k, below, at) =
-      let as_many : length names ≡ length sigs = sym (length-map Some names) ∙ ap length (sym same) ∙ length-map name_of_signal sigs in
+      let as_many : length names ≡ length sigs = sym (length-map names Some) ∙ ap length (sym same) ∙ length-map sigs name_of_signal in
       let sig : Sig = get_or sigs k (record { 0 = 0 }) in
       let its : name_of_signal sig ≡ get_or (map name_of_signal sigs) k None = sym (get_or-map name_of_signal sigs k (record { 0 = 0 }) None (subst (λ n. k < n) as_many below)) in
       (sig, its ∙ ap (λ xs. get_or xs k None) same ∙ get_or-map Some names k name None below ∙ ap Some at)

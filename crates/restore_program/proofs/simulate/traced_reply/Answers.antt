@@ -1,4 +1,4 @@
-use Rattle.std.proofs.Common.{ℕ, ◌≡◌, ◌<◌, ◌≤◌, ◌+◌, ◌*◌, ◌/◌, ◌%◌, min, ◌∙◌, None, length, sym, ap, subst, arith}
+use Rattle.std.proofs.Common.{◌≡◌, ◌<◌, ◌≤◌, ◌∙◌, None, length, sym, ap, subst}
 use Rattle.sr_model.specs.Limits.{block_count, max_blocks}
 use Rattle.report.specs.Refusals.{many_cells_line}
 use Rattle.restore_program.specs.Tracing.{IsTraceText, OnTrace, many_cells, refused_cells, traced}
@@ -23,12 +23,12 @@ returns-in-Err-clause-no_fault c = subst (λ r. refusal_fault r ≡ None) (sym c
 
 pub returns-then-product-gt-MAX_BLOCKS-clause-answer : goal.returns-then-product-gt-MAX_BLOCKS-clause-answer
 returns-then-product-gt-MAX_BLOCKS-clause-answer c =
-    let product : c.block_count.result ≡ block_count (length c.args.n.now.drivers) c.args.cycles = c.block_count.ensures ∙ ap (λ s. block_count s c.args.cycles) c.signals.ensures.count in
+    let product : c.block_count-product.result ≡ block_count (length c.args.n.now.drivers) c.args.cycles = c.block_count-product.ensures ∙ ap (λ s. block_count s c.args.cycles) c.signals.ensures.count in
     λ words there plain. subst (λ p. OnTrace c.args.n.now c.args.cycles c.args.seed c.args.list.now (many_cells_line p) statuses.Dump) (sym product)
     (refused_cells c.in-Ok.sigs.items _ _ c.in-Ok.ensures.named (many_cells (subst (λ p. max_blocks < p) product c.if-product-gt-MAX_BLOCKS.true)))
 
 pub returns-in-Ok-trace_text-clause-answer : goal.returns-in-Ok-trace_text-clause-answer
 returns-in-Ok-trace_text-clause-answer c =
-    let product : c.block_count.result ≡ block_count (length c.args.n.now.drivers) c.args.cycles = c.block_count.ensures ∙ ap (λ s. block_count s c.args.cycles) c.signals.ensures.count in
+    let product : c.block_count-product.result ≡ block_count (length c.args.n.now.drivers) c.args.cycles = c.block_count-product.ensures ∙ ap (λ s. block_count s c.args.cycles) c.signals.ensures.count in
     let few : block_count (length c.args.n.now.drivers) c.args.cycles ≤ max_blocks = subst (λ p. p ≤ max_blocks) product c.if-product-gt-MAX_BLOCKS.false in
     λ words there plain. traced c.in-Ok.sigs.items c.in-Ok-trace_text.text.items c.in-Ok.ensures.named few (subst (λ sigs. IsTraceText c.args.n.now c.args.seed c.args.cycles sigs c.in-Ok-trace_text.text.items) c.as_slice.ensures c.in-Ok-trace_text.ensures)
