@@ -2,3 +2,4 @@ pub mod Bits
 pub mod Problem
 pub mod Tasks
 pub mod Laws
+pub mod Waiting

@@ -19,10 +19,12 @@ mod problem;
 mod task_blocks;
 #[cfg(test)]
 mod tests;
+mod waiting;
 mod words;
 
 pub use bits::is_set;
 pub use laws::{block_laws, cell_laws, task_laws};
 pub use pace::{NoPace, Pace};
 pub use problem::{Block, InChunk, Problem, Task};
+pub use waiting::WaitingTasks;
 pub use words::{Blocks, PinWord, PinWords, Tasks};
