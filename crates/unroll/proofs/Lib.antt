@@ -7,6 +7,7 @@ mod BlockLists
 mod AdjacentTasks
 mod ConstantTasks
 mod CellTests
+mod WaitingWords
 mod WordBits
 mod SharedCells
 pub mod lemmas

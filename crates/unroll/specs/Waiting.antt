@@ -1,6 +1,8 @@
 -- Tasks that wait: a bit for each signal, chunk by chunk.
-use Rattle.std.specs.Prelude.{ℕ, ◌≡◌, ◌≢◌, ◌<◌, ◌≤◌, ◌+◌, ◌*◌, ◌/◌, ◌%◌, Bool, true, false, List, length, sum, slice_index_or}
+use Rattle.std.specs.Prelude.{ℕ, ◌≡◌, ◌≢◌, ◌<◌, ◌≤◌, ◌⊎◌, ◌+◌, ◌*◌, ◌/◌, ◌%◌, Bool, true, false, List, length, sum, slice_index_or, slice_set}
+use Rattle.std.specs.List.{Contains}
 use Rattle.sr_model.specs.declared.cells.Sig.{Sig}
+use Rattle.sr_model.specs.Limits.{max_signals}
 use Rattle.unroll.specs.Bits.{is_set}
 use Rattle.unroll.specs.declared.waiting.RowAt.{RowAt}
 
@@ -18,6 +20,10 @@ row_length signals = signals / 64 + 1
 abbrev pub row_word : ℕ → List ℕ → ℕ → ℕ → ℕ
 row_word signals words chunk r = slice_index_or words (chunk * row_length signals + r) 0
 
+-- the same tasks, but for those of one word
+abbrev pub with_word : Waiting → ℕ → ℕ → ℕ → Waiting
+with_word q chunk r word = record { signals = q.signals; chunks = q.chunks; words = slice_set q.words (chunk * row_length q.signals + r) word }
+
 -- whether the signal's bit in the chunk is set
 abbrev pub has_task : Waiting → Sig → ℕ → Bool
 has_task q s chunk = is_set (row_word q.signals q.words chunk (s.0 / 64)) (s.0 % 64)
@@ -27,6 +33,14 @@ pub record Waits (q : Waiting) (s : Sig) (chunk : ℕ) : Type 0 where
   pub signal : s.0 < q.signals
   pub early : chunk < q.chunks
   pub set : has_task q s chunk ≡ true
+
+-- the tasks of these signals wait in the chunk too, and no others more
+pub record Adds (targets : List Sig) (chunk : ℕ) (before after : Waiting) : Type 0 where
+  pub signals : after.signals ≡ before.signals
+  pub chunks : after.chunks ≡ before.chunks
+  pub wait : (s : Sig) → Contains targets s → Waits after s chunk
+  pub kept : (s : Sig) (c : ℕ) → Waits before s c → Waits after s c
+  pub only : (s : Sig) (c : ℕ) → Waits after s c → Waits before s c ⊎ (Contains targets s × (c ≡ chunk))
 
 -- none waits in the chunk
 abbrev pub IsIdle : Waiting → ℕ → Type 0
@@ -38,7 +52,7 @@ waiting_measure q = sum q.words
 
 -- each bit is that of a signal, and a chunk whose flag is not set has none
 pub record IsKept (signals chunks : ℕ) (words : List ℕ) (flags : List Bool) : Type 0 where
-  pub few_signals : signals ≤ 65536
+  pub few_signals : signals ≤ max_signals
   pub few_chunks : chunks ≤ 128
   pub size : length words ≡ chunks * row_length signals
   pub flags_size : length flags ≡ chunks

@@ -1,8 +1,9 @@
 //! The tasks that wait to be done.
-ghost use Rattle.std.specs.Prelude.{ℕ, length, ◌*◌, ◌≡◌, ◌≢◌, ◌+◌, ◌<◌, ◌≤◌, ◌⊎◌, Contains, All, IfOk, IfSome, IsNone, IsTrue, IsFalse, true};
+ghost use Rattle.std.specs.Prelude.{ℕ, [], ◌∷◌, replicate, false, length, ◌*◌, ◌^◌, ◌≡◌, ◌≢◌, ◌+◌, ◌<◌, ◌≤◌, ◌⊎◌, Contains, All, IfOk, IfSome, IsNone, IsTrue, IsFalse, true};
 ghost use Rattle.sr_model.specs.declared.cells.Sig.{Sig as AnySig};
+ghost use Rattle.sr_model.specs.Limits.{max_signals};
 ghost use Rattle.unroll.specs.Bits.{is_set};
-ghost use Rattle.unroll.specs.Waiting.{Waits, IsIdle, row_length, row_word, waiting_measure, HasTask};
+ghost use Rattle.unroll.specs.Waiting.{Adds, Waits, IsIdle, row_length, row_word, waiting_measure, with_word, HasTask};
 
 use crate::problem::InChunk;
 use sr_model::{NoMemory, Sig};
@@ -49,19 +50,15 @@ impl Model for WaitingTasks {
 impl WaitingTasks {
     /// None waits. It takes a bit for each signal and chunk.
     pub fn new(alloc: Global, signals: u32, chunks: u32) -> Result<WaitingTasks, NoMemory>
-        requires signals { signals ≤ 65536 }
+        requires signals { signals ≤ max_signals }
         requires some_chunks { 1 ≤ chunks }
         requires few_chunks { chunks ≤ 128 }
         ensures signals { IfOk result (λ q. q.signals ≡ signals) }
         ensures chunks { IfOk result (λ q. q.chunks ≡ chunks) }
         ensures none { IfOk result (λ q. (s : AnySig) (chunk : ℕ) → Waits q s chunk → ⊥) }
     {
-        let Ok(words) = vec![in alloc; 0; chunks as usize * row_len(signals)] else {
-            return Err(NoMemory);
-        };
-        let Ok(flags) = vec![in alloc; false; chunks as usize] else {
-            return Err(NoMemory);
-        };
+        let words = zeros(alloc, chunks as usize * row_len(signals))?;
+        let flags = unset(alloc, chunks as usize)?;
         Ok(WaitingTasks {
             words,
             flags,
@@ -81,26 +78,18 @@ impl WaitingTasks {
     pub fn add(&mut self, at: InChunk)
         requires signal { at.sig.0 < self.old.signals }
         requires chunk { at.chunk < self.old.chunks }
-        ensures signals { self.new.signals ≡ self.old.signals }
-        ensures chunks { self.new.chunks ≡ self.old.chunks }
-        ensures waits { Waits self.new at.sig at.chunk }
-        ensures kept { (s : AnySig) (c : ℕ) → Waits self.old s c → Waits self.new s c }
-        ensures only { (s : AnySig) (c : ℕ) → Waits self.new s c → Waits self.old s c ⊎ ((s ≡ at.sig) × (c ≡ at.chunk)) }
+        ensures { Adds (at.sig ∷ []) at.chunk self.old self.new }
     {
-        let place = self.place(at.chunk, at.sig.0 as usize / 64);
-        self.words[place] |= 1 << (at.sig.0 % 64);
-        self.flags[at.chunk as usize] = true;
+        let row = at.sig.0 as usize / 64;
+        let word = self.word(at.chunk, row) | alone(at.sig.0 % 64);
+        self.put(at.chunk, row, word);
     }
 
     /// Lets the tasks of these signals wait in a chunk.
     pub fn add_all(&mut self, targets: &[Sig], chunk: u32)
         requires signals { All (λ (s : AnySig). s.0 < self.old.signals) targets.now }
         requires chunk { chunk < self.old.chunks }
-        ensures signals { self.new.signals ≡ self.old.signals }
-        ensures chunks { self.new.chunks ≡ self.old.chunks }
-        ensures wait { (s : AnySig) → Contains targets.now s → Waits self.new s chunk }
-        ensures kept { (s : AnySig) (c : ℕ) → Waits self.old s c → Waits self.new s c }
-        ensures only { (s : AnySig) (c : ℕ) → Waits self.new s c → Waits self.old s c ⊎ (Contains targets.now s × (c ≡ chunk)) }
+        ensures { Adds targets.now chunk self.old self.new }
     {
         for sig in targets {
             self.add(InChunk { sig: *sig, chunk });
@@ -116,8 +105,9 @@ impl WaitingTasks {
         ensures only { (s : AnySig) (c : ℕ) → Waits self.new s c → Waits self.old s c }
         ensures fewer { waiting_measure self.new < waiting_measure self.old }
     {
-        let place = self.place(at.chunk, at.sig.0 as usize / 64);
-        self.words[place] &= !(1 << (at.sig.0 % 64));
+        let row = at.sig.0 as usize / 64;
+        let word = self.word(at.chunk, row) & !alone(at.sig.0 % 64);
+        self.put(at.chunk, row, word);
     }
 
     /// The next task of the sweep, which waits on. None exactly where none waits.
@@ -193,11 +183,13 @@ impl WaitingTasks {
 
     /// The first word with a task of the chunks behind this one.
     fn row_after(&mut self, chunk: u32) -> Option<RowAt>
+        requires { chunk < self.old.chunks }
         ensures same { self.new ≡ self.old }
         ensures some { IfSome result (HasTask self.old) }
         ensures none { IsNone result → (c : ℕ) → chunk < c → IsIdle self.old c }
     {
-        for later in chunk + 1..self.chunks {
+        let chunks = self.chunks;
+        for later in chunk + 1..chunks {
             if let Some(at) = self.row_in(later) {
                 return Some(at);
             }
@@ -299,11 +291,25 @@ impl WaitingTasks {
         }
     }
 
+    /// Replaces a word of a chunk.
+    fn put(&mut self, chunk: u32, row: usize, word: u64)
+        requires chunk { chunk < self.old.chunks }
+        requires row { row < row_length self.old.signals }
+        requires signals { (i : ℕ) → i < 64 → is_set word i ≡ true → row * 64 + i < self.old.signals }
+        ensures { self.new ≡ with_word self.old chunk row word }
+    {
+        let place = self.place(chunk, row);
+        self.words[place] = word;
+        self.flags[chunk as usize] = true;
+    }
+
     /// A word of a chunk.
     fn word(&self, chunk: u32, row: usize) -> u64
         requires chunk { chunk < self.now.chunks }
         requires row { row < row_length self.now.signals }
-        ensures { result ≡ row_word self.now.signals self.now.words chunk row }
+        ensures word { result ≡ row_word self.now.signals self.now.words chunk row }
+        ensures within { chunk * row_length self.now.signals + row < length self.now.words }
+        ensures signals { (i : ℕ) → i < 64 → is_set result i ≡ true → row * 64 + i < self.now.signals }
     {
         self.words[self.place(chunk, row)]
     }
@@ -347,4 +353,32 @@ fn highest_bit(word: u64) -> u32
     ensures set { is_set word result ≡ true }
 {
     63 - word.leading_zeros()
+}
+
+/// The word in which one bit is set.
+fn alone(i: u32) -> u64
+    requires { i < 64 }
+    ensures { result ≡ 2 ^ i }
+{
+    1 << i
+}
+
+/// So many words that are 0.
+fn zeros(alloc: Global, count: usize) -> Result<Vec<u64>, NoMemory>
+    ensures { IfOk result (λ words. words.items ≡ replicate count 0) }
+{
+    match vec![in alloc; 0; count] {
+        Ok(words) => Ok(words),
+        Err(_) => Err(NoMemory),
+    }
+}
+
+/// So many flags that are not set.
+fn unset(alloc: Global, count: usize) -> Result<Vec<bool>, NoMemory>
+    ensures { IfOk result (λ flags. flags.items ≡ replicate count false) }
+{
+    match vec![in alloc; false; count] {
+        Ok(flags) => Ok(flags),
+        Err(_) => Err(NoMemory),
+    }
 }

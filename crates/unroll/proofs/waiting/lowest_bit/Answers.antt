@@ -1,9 +1,12 @@
-use Rattle.std.proofs.Common.{rules, ℕ, length, ◌*◌, ◌≡◌, ◌≢◌, ◌+◌, ◌<◌, ◌≤◌, ◌⊎◌, Contains, All, IfOk, IfSome, IsNone, IsTrue, IsFalse, true, ◌-◌, ◌/◌, ◌%◌, Bool, false, nat_eq, nat_lt, List, [], ◌∷◌, ◌++◌, slice_index_or, slice_set, bit_and, bit_or, Fits, w8, w32, w64, Bor, MutBor}
-use Rattle.sr_model.specs.declared.cells.Sig.{Sig as AnySig}
+use Rattle.std.proofs.Common.{ℕ, suc, zero, ◌≡◌, ◌≢◌, ◌+◌, ◌-◌, ◌*◌, ◌/◌, ◌%◌, ◌<◌, ◌≤◌, ◌^◌, ◌⊎◌, ◌&&◌, ◌||◌, Bool, true, false, not, List, [], ◌∷◌, length, set, replicate, arith, refl, inl, inr, sym, ap, subst, bit_and, bit_or, ◌∙◌}
+use Rattle.std.specs.Int.{bit_not, w64}
+use Rattle.std.proofs.lemmas.Bool.{cases_eq, cases_lt, true≢false}
+use Rattle.sr_model.specs.declared.cells.Sig.{Sig}
 use Rattle.unroll.specs.Bits.{is_set}
-use Rattle.unroll.specs.Waiting.{Waits, IsIdle, row_length, row_word, waiting_measure, HasTask}
+use Rattle.unroll.specs.Waiting.{Waiting, Waits, IsIdle, HasTask, IsKept, row_length, row_word, has_task, with_word, waiting_measure}
+use Rattle.unroll.proofs.WordBits.{is_set_zero}
+use Rattle.unroll.proofs.WaitingWords.{lowest-set}
 use Rattle.unroll.proofs.waiting.lowest_bit.Goals as goal
 
--- src/waiting.rt:336:1
 pub returns-clause-set : goal.returns-clause-set
-returns-clause-set c = ?
+returns-clause-set c = lowest-set c.args.word c.requires (omega (arith, c.ranges.word.fits))

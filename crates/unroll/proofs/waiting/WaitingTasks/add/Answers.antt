@@ -1,21 +1,19 @@
-use Rattle.std.proofs.Common.{rules, ℕ, length, ◌*◌, ◌≡◌, ◌≢◌, ◌+◌, ◌<◌, ◌≤◌, ◌⊎◌, Contains, All, IfOk, IfSome, IsNone, IsTrue, IsFalse, true, ◌-◌, ◌/◌, ◌%◌, Bool, false, nat_eq, nat_lt, List, [], ◌∷◌, ◌++◌, slice_index_or, slice_set, bit_and, bit_or, Fits, w8, w32, w64, Bor, MutBor}
-use Rattle.sr_model.specs.declared.cells.Sig.{Sig as AnySig}
+use Rattle.std.proofs.Common.{ℕ, suc, zero, ◌≡◌, ◌≢◌, ◌+◌, ◌-◌, ◌*◌, ◌/◌, ◌%◌, ◌<◌, ◌≤◌, ◌^◌, ◌⊎◌, ◌&&◌, ◌||◌, Bool, true, false, not, List, [], ◌∷◌, length, set, replicate, arith, refl, inl, inr, sym, ap, subst, bit_and, bit_or, ◌∙◌}
+use Rattle.std.specs.Int.{bit_not, w64}
+use Rattle.std.proofs.lemmas.Bool.{cases_eq, cases_lt, true≢false}
+use Rattle.sr_model.specs.declared.cells.Sig.{Sig}
 use Rattle.unroll.specs.Bits.{is_set}
-use Rattle.unroll.specs.Waiting.{Waits, IsIdle, row_length, row_word, waiting_measure, HasTask}
+use Rattle.unroll.specs.Waiting.{Waiting, Waits, Adds, IsIdle, HasTask, IsKept, row_length, row_word, has_task, with_word, waiting_measure}
+use Rattle.unroll.proofs.WordBits.{is_set_zero}
+use Rattle.unroll.proofs.WaitingWords.{added-bits, adds}
 use Rattle.unroll.proofs.waiting.WaitingTasks.add.Goals as goal
 
--- src/waiting.rt:81:5
-pub invariant_of-self : goal.invariant_of-self
-invariant_of-self c = ?
+pub put-requires-clause-signals : goal.put-requires-clause-signals
+put-requires-clause-signals c = 
+    subst (λ b. (i : ℕ) → i < 64 → is_set (bit_or c.word.result b) i ≡ true → c.args.at.sig.0 / 64 * 64 + i < c.args.self.now.signals) (sym c.alone.ensures)
+    (added-bits c.args.self.now c.args.at.chunk c.args.at.sig c.word.result c.word.ensures.word c.requires.chunk c.requires.signal c.word.ensures.within c.word.ensures.signals)
 
--- src/waiting.rt:81:5
-pub returns-clause-waits : goal.returns-clause-waits
-returns-clause-waits c = ?
-
--- src/waiting.rt:81:5
-pub returns-clause-kept : goal.returns-clause-kept
-returns-clause-kept c = ?
-
--- src/waiting.rt:81:5
-pub returns-clause-only : goal.returns-clause-only
-returns-clause-only c = ?
+pub returns : goal.returns
+returns c =
+    subst (Adds (c.args.at.sig ∷ []) c.args.at.chunk c.args.self.now) (sym (c.put.ensures ∙ ap (λ b. with_word c.args.self.now c.args.at.chunk (c.args.at.sig.0 / 64) (bit_or c.word.result b)) c.alone.ensures))
+    (adds c.args.self.now c.args.at.chunk c.args.at.sig c.word.result c.word.ensures.word c.requires.chunk c.requires.signal c.word.ensures.within)

@@ -1,8 +1,6 @@
-use Rattle.std.proofs.Common.{ℕ, length, ◌*◌, ◌≡◌, ◌≢◌, ◌+◌, ◌<◌, ◌≤◌, ◌⊎◌, Contains, All, IfOk, IfSome, IsNone, IsTrue, IsFalse, true, ◌-◌}
-use Rattle.sr_model.specs.declared.cells.Sig.{Sig as AnySig}
-use Rattle.unroll.specs.Bits.{is_set}
-use Rattle.unroll.specs.Waiting.{Waits, IsIdle, row_length, row_word, waiting_measure, HasTask}
+use Rattle.std.proofs.Common.{take}
+use Rattle.unroll.specs.Waiting.{Adds}
 use Rattle.unroll.proofs.waiting.WaitingTasks.add_all.Given as goal
 
 abbrev pub invariant-loop-sig : goal.invariant-loop-sig
-invariant-loop-sig l = ?
+invariant-loop-sig l = Adds (take l.sig-index l.targets) l.chunk l.fn.self l.self

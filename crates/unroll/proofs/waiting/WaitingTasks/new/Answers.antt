@@ -1,13 +1,24 @@
-use Rattle.std.proofs.Common.{rules, ℕ, length, ◌*◌, ◌≡◌, ◌≢◌, ◌+◌, ◌<◌, ◌≤◌, ◌⊎◌, Contains, All, IfOk, IfSome, IsNone, IsTrue, IsFalse, true, ◌-◌, ◌/◌, ◌%◌, Bool, false, nat_eq, nat_lt, List, [], ◌∷◌, ◌++◌, slice_index_or, slice_set, bit_and, bit_or, Fits, w8, w32, w64, Bor, MutBor}
-use Rattle.sr_model.specs.declared.cells.Sig.{Sig as AnySig}
+use Rattle.std.proofs.Common.{ℕ, suc, zero, ◌≡◌, ◌≢◌, ◌+◌, ◌-◌, ◌*◌, ◌/◌, ◌%◌, ◌<◌, ◌≤◌, ◌^◌, ◌⊎◌, ◌&&◌, ◌||◌, Bool, true, false, not, List, [], ◌∷◌, length, set, replicate, arith, refl, inl, inr, sym, ap, subst, bit_and, bit_or, ◌∙◌}
+use Rattle.std.specs.Int.{bit_not, w64}
+use Rattle.std.proofs.lemmas.Bool.{cases_eq, cases_lt, true≢false}
+use Rattle.sr_model.specs.declared.cells.Sig.{Sig}
 use Rattle.unroll.specs.Bits.{is_set}
-use Rattle.unroll.specs.Waiting.{Waits, IsIdle, row_length, row_word, waiting_measure, HasTask}
+use Rattle.unroll.specs.Waiting.{Waiting, Waits, IsIdle, HasTask, IsKept, row_length, row_word, has_task, with_word, waiting_measure}
+use Rattle.unroll.proofs.WordBits.{is_set_zero}
+use Rattle.unroll.proofs.WaitingWords.{none-kept, zero-word}
 use Rattle.unroll.proofs.waiting.WaitingTasks.new.Goals as goal
 
--- src/waiting.rt:65:9
 pub invariant_of-result : goal.invariant_of-result
-invariant_of-result c = ?
+invariant_of-result c =
+    let words : c.in_ok-words.words.items ≡ replicate (c.args.chunks * row_length c.args.signals) 0 = c.in_ok-words.ensures ∙ ap (λ n. replicate (c.args.chunks * n) 0) c.row_len.ensures in (
+      subst (λ ws. IsKept c.args.signals c.args.chunks ws c.in_ok-flags.flags.items) (sym words)
+          (subst (IsKept c.args.signals c.args.chunks (replicate (c.args.chunks * row_length c.args.signals) 0)) (sym c.in_ok-flags.ensures)
+          (none-kept c.args.signals c.args.chunks c.requires.signals c.requires.few_chunks)),
+      c.requires.some_chunks,
+      omega arith,
+    )
 
--- src/waiting.rt:51:5
 pub returns-clause-none : goal.returns-clause-none
-returns-clause-none c = ?
+returns-clause-none c =
+    let words : c.in_ok-words.words.items ≡ replicate (c.args.chunks * row_length c.args.signals) 0 = c.in_ok-words.ensures ∙ ap (λ n. replicate (c.args.chunks * n) 0) c.row_len.ensures in
+    λ s chunk h. true≢false (sym h.set ∙ ap (λ ws. is_set (row_word c.args.signals ws chunk (s.0 / 64)) (s.0 % 64)) words ∙ ap (λ n. is_set n (s.0 % 64)) (zero-word c.args.signals c.args.chunks chunk (s.0 / 64)) ∙ is_set_zero (s.0 % 64))

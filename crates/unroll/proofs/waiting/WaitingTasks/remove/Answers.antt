@@ -1,21 +1,30 @@
-use Rattle.std.proofs.Common.{rules, ℕ, length, ◌*◌, ◌≡◌, ◌≢◌, ◌+◌, ◌<◌, ◌≤◌, ◌⊎◌, Contains, All, IfOk, IfSome, IsNone, IsTrue, IsFalse, true, ◌-◌, ◌/◌, ◌%◌, Bool, false, nat_eq, nat_lt, List, [], ◌∷◌, ◌++◌, slice_index_or, slice_set, bit_and, bit_or, Fits, w8, w32, w64, Bor, MutBor}
-use Rattle.sr_model.specs.declared.cells.Sig.{Sig as AnySig}
+use Rattle.std.proofs.Common.{ℕ, suc, zero, ◌≡◌, ◌≢◌, ◌+◌, ◌-◌, ◌*◌, ◌/◌, ◌%◌, ◌<◌, ◌≤◌, ◌^◌, ◌⊎◌, ◌&&◌, ◌||◌, Bool, true, false, not, List, [], ◌∷◌, length, set, replicate, arith, refl, inl, inr, sym, ap, subst, bit_and, bit_or, ◌∙◌}
+use Rattle.std.specs.Int.{bit_not, w64}
+use Rattle.std.proofs.lemmas.Bool.{cases_eq, cases_lt, true≢false}
+use Rattle.sr_model.specs.declared.cells.Sig.{Sig}
 use Rattle.unroll.specs.Bits.{is_set}
-use Rattle.unroll.specs.Waiting.{Waits, IsIdle, row_length, row_word, waiting_measure, HasTask}
+use Rattle.unroll.specs.Waiting.{Waiting, Waits, IsIdle, HasTask, IsKept, row_length, row_word, has_task, with_word, waiting_measure}
+use Rattle.unroll.proofs.WordBits.{is_set_zero}
+use Rattle.unroll.proofs.WaitingWords.{left-old, remove-kept, remove-only, remove-fewer}
 use Rattle.unroll.proofs.waiting.WaitingTasks.remove.Goals as goal
 
--- src/waiting.rt:111:5
-pub invariant_of-self : goal.invariant_of-self
-invariant_of-self c = ?
+pub put-requires-clause-signals : goal.put-requires-clause-signals
+put-requires-clause-signals c = 
+    subst (λ b. (i : ℕ) → i < 64 → is_set (bit_and c.word.result (bit_not w64 b)) i ≡ true → c.args.at.sig.0 / 64 * 64 + i < c.args.self.now.signals) (sym c.alone.ensures)
+    (λ i small h. c.word.ensures.signals i small (left-old c.args.self.now c.args.at.chunk c.args.at.sig c.word.result c.word.ensures.word c.requires c.word.ensures.within i h))
 
--- src/waiting.rt:111:5
 pub returns-clause-kept : goal.returns-clause-kept
-returns-clause-kept c = ?
+returns-clause-kept c = 
+    subst (λ (w : Waiting). (s : Sig) (c' : ℕ) → Waits c.args.self.now s c' → Waits w s c' ⊎ ((s ≡ c.args.at.sig) × (c' ≡ c.args.at.chunk)))
+    (sym (c.put.ensures ∙ ap (λ b. with_word c.args.self.now c.args.at.chunk (c.args.at.sig.0 / 64) (bit_and c.word.result (bit_not w64 b))) c.alone.ensures))
+    (remove-kept c.args.self.now c.args.at.chunk c.args.at.sig c.word.result c.word.ensures.word c.requires c.word.ensures.within)
 
--- src/waiting.rt:111:5
 pub returns-clause-only : goal.returns-clause-only
-returns-clause-only c = ?
+returns-clause-only c = 
+    subst (λ (w : Waiting). (s : Sig) (c' : ℕ) → Waits w s c' → Waits c.args.self.now s c') (sym (c.put.ensures ∙ ap (λ b. with_word c.args.self.now c.args.at.chunk (c.args.at.sig.0 / 64) (bit_and c.word.result (bit_not w64 b))) c.alone.ensures))
+    (remove-only c.args.self.now c.args.at.chunk c.args.at.sig c.word.result c.word.ensures.word c.requires c.word.ensures.within)
 
--- src/waiting.rt:111:5
 pub returns-clause-fewer : goal.returns-clause-fewer
-returns-clause-fewer c = ?
+returns-clause-fewer c = 
+    subst (λ (w : Waiting). waiting_measure w < waiting_measure c.args.self.now) (sym (c.put.ensures ∙ ap (λ b. with_word c.args.self.now c.args.at.chunk (c.args.at.sig.0 / 64) (bit_and c.word.result (bit_not w64 b))) c.alone.ensures))
+    (remove-fewer c.args.self.now c.args.at.chunk c.args.at.sig c.word.result c.word.ensures.word c.requires c.word.ensures.within)
