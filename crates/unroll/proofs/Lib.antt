@@ -8,6 +8,7 @@ mod AdjacentTasks
 mod ConstantTasks
 mod CellTests
 mod WaitingWords
+mod RecordLists
 mod WordBits
 mod SharedCells
 pub mod lemmas

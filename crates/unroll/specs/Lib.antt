@@ -3,3 +3,4 @@ pub mod Problem
 pub mod Tasks
 pub mod Laws
 pub mod Waiting
+pub mod Records

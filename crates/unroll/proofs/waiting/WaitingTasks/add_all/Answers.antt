@@ -1,10 +1,5 @@
-use Rattle.std.proofs.Common.{ℕ, suc, zero, ◌≡◌, ◌≢◌, ◌+◌, ◌-◌, ◌*◌, ◌/◌, ◌%◌, ◌<◌, ◌≤◌, ◌^◌, ◌⊎◌, ◌&&◌, ◌||◌, Bool, true, false, not, List, [], ◌∷◌, length, set, take, replicate, arith, refl, inl, inr, sym, ap, subst, bit_and, bit_or, ◌∙◌}
-use Rattle.std.specs.Int.{bit_not, w64}
-use Rattle.std.proofs.lemmas.Bool.{cases_eq, cases_lt, true≢false}
-use Rattle.sr_model.specs.declared.cells.Sig.{Sig}
-use Rattle.unroll.specs.Bits.{is_set}
-use Rattle.unroll.specs.Waiting.{Waiting, Waits, Adds, IsIdle, HasTask, IsKept, row_length, row_word, has_task, with_word, waiting_measure}
-use Rattle.unroll.proofs.WordBits.{is_set_zero}
+use Rattle.std.proofs.Common.{take, sym, subst}
+use Rattle.unroll.specs.Waiting.{Adds}
 use Rattle.unroll.proofs.WaitingWords.{adds-more}
 use Rattle.std.proofs.lemmas.List.{take_more}
 use Rattle.unroll.proofs.waiting.WaitingTasks.add_all.Goals as goal
