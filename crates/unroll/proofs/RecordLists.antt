@@ -1,5 +1,5 @@
 -- The records of signals, and the signals that are adjacent to them, one list behind the other.
-use Rattle.std.proofs.Common.{ℕ, not, eqb, zero, suc, ◌≡◌, ◌+◌, ◌-◌, ◌*◌, ◌<◌, ◌≤◌, Bool, true, false, cond, List, [], ◌∷◌, ◌++◌, length, take, drop, get_or, filter, map, arith, refl, inl, inr, sym, ap, subst, ◌∙◌}
+use Rattle.std.proofs.Common.{ℕ, not, eqb, ◌≡◌, ◌+◌, ◌-◌, ◌≤◌, Bool, true, false, cond, List, [], ◌∷◌, ◌++◌, length, take, drop, get_or, filter, arith, inl, inr, sym, ap, subst, ◌∙◌}
 use Rattle.std.proofs.lemmas.Bool.{cases_lt}
 use Rattle.std.proofs.lemmas.List.{length-append, take-append-le, length-drop, drop-append-le, get_or_append_left, take_all}
 use Rattle.std.proofs.lemmas.List.FromFn.{length-map-range_with_len}

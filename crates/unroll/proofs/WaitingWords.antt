@@ -1,8 +1,8 @@
 -- The tasks that wait, after one word of their bits is replaced.
-use Rattle.std.proofs.Common.{ℕ, suc, pow-suc, ◌≡◌, ◌≢◌, ◌-◌, ◌+◌, ◌*◌, ◌/◌, ◌%◌, ◌<◌, ◌≤◌, ◌^◌, ◌⊎◌, ◌&&◌, ◌||◌, Bool, true, false, not, List, [], ◌∷◌, ◌++◌, length, length-set, get_or, set, sum, replicate, arith, inl, inr, sym, ap, subst, bit_and, bit_or, refl, eqb, ◌∙◌}
+use Rattle.std.proofs.Common.{ℕ, suc, pow-suc, ◌≡◌, ◌-◌, ◌+◌, ◌*◌, ◌/◌, ◌%◌, ◌<◌, ◌≤◌, ◌^◌, ◌⊎◌, ◌&&◌, Bool, true, false, not, List, [], ◌∷◌, ◌++◌, length, length-set, get_or, set, sum, replicate, arith, inl, inr, sym, ap, subst, bit_and, bit_or, refl, eqb, ◌∙◌}
 use Rattle.std.specs.Int.{bit_not, w64, bit_at, trailing_zeros, leading_zeros}
 use Rattle.std.proofs.Math.Pow.{pow-lt}
-use Rattle.std.proofs.lemmas.Bool.{cases_Bool, cases_eq, cases_lt, true≢false, or_cases, or_left, or_right, and_from, and_parts}
+use Rattle.std.proofs.lemmas.Bool.{cases_Bool, cases_eq, cases_lt, true≢false, or_cases, or_left, or_right, and_parts}
 use Rattle.std.proofs.lemmas.Nat.{same_from_place, mul-add-lt, and_le_l, div-add-mod', leading_top}
 use Rattle.std.proofs.lemmas.Nat.Bits.{bit_at-trailing_zeros, bit_at_cat_high, bit_at-pow_same}
 use Rattle.std.proofs.lemmas.List.{get_or-set_same, get_or-set_other, get_or-replicate, length-replicate}
@@ -14,7 +14,7 @@ use Rattle.std.specs.List.{Contains}
 use Rattle.sr_model.specs.declared.cells.Sig.{Sig}
 use Rattle.sr_model.specs.Limits.{max_signals}
 use Rattle.unroll.specs.Bits.{is_set}
-use Rattle.unroll.specs.Waiting.{Waiting, Waits, Adds, IsIdle, HasTask, IsKept, row_length, row_word, has_task, with_word, waiting_measure}
+use Rattle.unroll.specs.Waiting.{Waiting, Waits, Adds, IsIdle, IsKept, row_length, row_word, with_word, waiting_measure}
 use Rattle.unroll.proofs.WordBits.{is_set_and, is_set_or, is_set_not, is_set_zero}
 use Rattle.unroll.proofs.Masks.{alone-set, alone-only}
 

@@ -1,8 +1,11 @@
 //! What a turn of a task needs to know of each signal, in one place.
 ghost use Rattle.std.specs.Prelude.{◌≡◌, ◌<◌, ◌++◌, ◌∷◌, [], if◌then◌else◌, length, IfOk, OnOk};
+ghost use Rattle.netlist.specs.Circuit.{IsCircuit};
 ghost use Rattle.netlist.specs.Wiring.{driver_at, is_driven, pins_of};
-ghost use Rattle.unroll.specs.Records.{HasShape, adjacent_signals, pin_or};
+ghost use Rattle.unroll.specs.Records.{HasShape, adjacent_signals, pin_or, wakes_before, woken_signals};
 
+use crate::bits::is_set;
+use crate::problem::InChunk;
 use netlist::Netlist;
 use sr_model::{Family, NoMemory, Sequence, Sig, Sigs};
 use std::alloc::Global;
@@ -18,7 +21,9 @@ pub enum Shape {
     TwoPins(Family),
     /// By a flip-flop, whose pin is of another signal.
     FlipFlop,
-    /// By a gate with more pins, or with pins of one signal, or by a flip-flop that drives itself.
+    /// By a flip-flop that is its own pin.
+    OwnPin,
+    /// By a gate with more pins, or with two of one signal.
     Other,
 }
 
@@ -93,6 +98,40 @@ impl<'n> SignalRecords<'n> {
         let start = record.start as usize;
         &self.adjacent[start..start + record.count as usize]
     }
+
+    /// The tasks that have a cell of the bits which are fresh in a signal's block. A flip-flop's bit 0 is in its task of the chunk before, and the others are in that of the chunk,
+    /// where they all are if the flip-flop is its own pin.
+    #[inline]
+    pub fn woken(&self, at: InChunk, fresh: u64) -> Woken<'_>
+        requires { at.sig.0 < length self.now }
+        ensures before { result.before ≡ wakes_before self.now at.sig at.chunk fresh }
+        ensures here { result.here.now ≡ woken_signals self.now at.sig fresh }
+    {
+        let adjacent = self.adjacent(at.sig);
+        match self.records[at.sig.0 as usize].shape {
+            Shape::FlipFlop => Woken {
+                before: at.chunk > 0 && is_set(fresh, 0),
+                here: if fresh <= 1 { &adjacent[1..] } else { adjacent },
+            },
+            Shape::OwnPin => Woken {
+                before: at.chunk > 0 && is_set(fresh, 0),
+                here: adjacent,
+            },
+            _ => Woken {
+                before: false,
+                here: adjacent,
+            },
+        }
+    }
+}
+
+/// The tasks that wait once bits of a block are fresh.
+#[derive(Clone, Copy)]
+pub struct Woken<'a> {
+    /// That of the block's own signal in the chunk before.
+    pub before: bool,
+    /// Those of these signals in the block's chunk.
+    pub here: &'a [Sig],
 }
 
 /// Adds the signals that are adjacent to one.
@@ -121,7 +160,8 @@ fn push_own(net: &Netlist, s: Sig, adjacent: &mut Sigs) -> Result<(), NoMemory>
 
 /// The record of a signal, whose adjacent signals stand from a place on.
 fn record_of(net: &Netlist, s: Sig, start: u32, count: u32) -> SignalRecord
-    requires { s.0 < length net.now.drivers }
+    requires circuit { IsCircuit net.now }
+    requires signal { s.0 < length net.now.drivers }
     ensures shape { HasShape result.shape (driver_at net.now.drivers s.0) s result.first result.second }
     ensures start { result.start ≡ start }
     ensures count { result.count ≡ count }
@@ -141,20 +181,21 @@ fn record_of(net: &Netlist, s: Sig, start: u32, count: u32) -> SignalRecord
 
 /// How a signal is driven.
 fn shape_of(net: &Netlist, s: Sig) -> Shape
-    requires { s.0 < length net.now.drivers }
+    requires circuit { IsCircuit net.now }
+    requires signal { s.0 < length net.now.drivers }
     ensures { HasShape result (driver_at net.now.drivers s.0) s (pin_or s (pins_of (driver_at net.now.drivers s.0)) 0) (pin_or s (pins_of (driver_at net.now.drivers s.0)) 1) }
 {
     let Some(kind) = net.kind_of(s) else {
         return Shape::Input;
     };
     let pins = net.pins_of(s);
+    if kind.is_flip_flop() {
+        return if pins[0] == s { Shape::OwnPin } else { Shape::FlipFlop };
+    }
     if pins.len() == 1 && pins[0] != s {
-        if kind.is_flip_flop() {
-            return Shape::FlipFlop;
-        }
         return Shape::OnePin(kind.family());
     }
-    if pins.len() == 2 && !kind.is_flip_flop() && pins[0] != s && pins[1] != s && pins[0] != pins[1] {
+    if pins.len() == 2 && pins[0] != s && pins[1] != s && pins[0] != pins[1] {
         return Shape::TwoPins(kind.family());
     }
     Shape::Other
