@@ -3,7 +3,6 @@ use Rattle.std.proofs.Common.{ℕ, ◌≡◌, ◌<◌, ◌≤◌, ◌⊎◌, ◌
 use Rattle.std.specs.List.{All, Contains, slice_get}
 use Rattle.std.proofs.Math.Seq.{get_or-append_seam}
 use Rattle.std.proofs.lemmas.List.{get_or_append_left, get_or-map, length-append, length-map}
-
 use Rattle.std.proofs.lemmas.Option.{get_or_from_slice_get, slice_get_within}
 use Rattle.sr_model.specs.declared.cells.Sig.{Sig}
 use Rattle.netlist.specs.Circuit.{Circuit, IsCircuit}

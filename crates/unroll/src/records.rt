@@ -190,7 +190,11 @@ fn shape_of(net: &Netlist, s: Sig) -> Shape
     };
     let pins = net.pins_of(s);
     if kind.is_flip_flop() {
-        return if pins[0] == s { Shape::OwnPin } else { Shape::FlipFlop };
+        return if pins[0] == s {
+            Shape::OwnPin
+        } else {
+            Shape::FlipFlop
+        };
     }
     if pins.len() == 1 && pins[0] != s {
         return Shape::OnePin(kind.family());

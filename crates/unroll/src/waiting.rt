@@ -277,11 +277,19 @@ impl WaitingTasks {
         ensures waits { Waits self.old result.sig result.chunk }
     {
         let up = self.sweep.up;
-        let i = if up { lowest_bit(bits) } else { highest_bit(bits) };
+        let i = if up {
+            lowest_bit(bits)
+        } else {
+            highest_bit(bits)
+        };
         self.sweep = Sweep {
             chunk,
             row,
-            ahead: if up { (u64::MAX << i) << 1 } else { (1 << i) - 1 },
+            ahead: if up {
+                (u64::MAX << i) << 1
+            } else {
+                (1 << i) - 1
+            },
             up,
             later: self.sweep.later,
         };

@@ -5,7 +5,7 @@ use Rattle.unroll.proofs.WaitingWords.{added-bits, adds}
 use Rattle.unroll.proofs.waiting.WaitingTasks.add.Goals as goal
 
 pub put-requires-clause-signals : goal.put-requires-clause-signals
-put-requires-clause-signals c = 
+put-requires-clause-signals c =
     subst (λ b. (i : ℕ) → i < 64 → is_set (bit_or c.word.result b) i ≡ true → c.args.at.sig.0 / 64 * 64 + i < c.args.self.now.signals) (sym c.alone.ensures)
     (added-bits c.args.self.now c.args.at.chunk c.args.at.sig c.word.result c.word.ensures.word c.requires.chunk c.requires.signal c.word.ensures.within c.word.ensures.signals)
 

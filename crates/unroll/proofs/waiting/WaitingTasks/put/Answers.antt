@@ -5,7 +5,7 @@ use Rattle.unroll.proofs.WaitingWords.{put-kept}
 use Rattle.unroll.proofs.waiting.WaitingTasks.put.Goals as goal
 
 pub invariant_of-self : goal.invariant_of-self
-invariant_of-self c = 
+invariant_of-self c =
     let early : c.args.chunk < c.self.inside.chunks = subst (λ (w : Waiting). c.args.chunk < w.chunks) (sym c.self.view_is) c.requires.chunk in
     let row : c.args.row < row_length c.self.inside.signals = subst (λ (w : Waiting). c.args.row < row_length w.signals) (sym c.self.view_is) c.requires.row in
     let place : c.place-place.result ≡ c.args.chunk * row_length c.self.inside.signals + c.args.row =
