@@ -7,6 +7,8 @@ mod BlockLists
 mod AdjacentTasks
 mod ConstantTasks
 mod CellTests
+mod WaitingWords
+mod RecordLists
 mod WordBits
 mod SharedCells
 pub mod lemmas

@@ -16,13 +16,17 @@ mod constants;
 mod laws;
 mod pace;
 mod problem;
+mod records;
 mod task_blocks;
 #[cfg(test)]
 mod tests;
+mod waiting;
 mod words;
 
 pub use bits::is_set;
 pub use laws::{block_laws, cell_laws, task_laws};
 pub use pace::{NoPace, Pace};
 pub use problem::{Block, InChunk, Problem, Task};
+pub use records::{Shape, SignalRecord, SignalRecords};
+pub use waiting::WaitingTasks;
 pub use words::{Blocks, PinWord, PinWords, Tasks};

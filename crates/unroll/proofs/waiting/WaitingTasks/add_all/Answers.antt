@@ -1,0 +1,10 @@
+use Rattle.std.proofs.Common.{take, sym, subst}
+use Rattle.unroll.specs.Waiting.{Adds}
+use Rattle.unroll.proofs.WaitingWords.{adds-more}
+use Rattle.std.proofs.lemmas.List.{take_more}
+use Rattle.unroll.proofs.waiting.WaitingTasks.add_all.Goals as goal
+
+pub loop-sig-preserved : goal.loop-sig-preserved
+loop-sig-preserved c =
+    subst (λ ts. Adds ts c.args.chunk c.args.self.now c.add.new.self) (sym (take_more c.args.targets.now c.loop-sig.sig-index (record { 0 = 0 }) c.loop-sig-test.true))
+    (adds-more (take c.loop-sig.sig-index c.args.targets.now) _ c.args.chunk c.args.self.now c.loop-sig.self c.add.new.self c.loop-sig.invariant c.add.ensures)

@@ -1,0 +1,66 @@
+-- Tasks that wait: a bit for each signal, chunk by chunk.
+use Rattle.std.specs.Prelude.{ℕ, ◌≡◌, ◌≢◌, ◌<◌, ◌≤◌, ◌⊎◌, ◌+◌, ◌*◌, ◌/◌, ◌%◌, Bool, true, false, List, length, sum, slice_index_or, slice_set}
+use Rattle.std.specs.List.{Contains}
+use Rattle.sr_model.specs.declared.cells.Sig.{Sig}
+use Rattle.sr_model.specs.Limits.{max_signals}
+use Rattle.unroll.specs.Bits.{is_set}
+use Rattle.unroll.specs.declared.waiting.RowAt.{RowAt}
+
+-- what contracts see of the tasks that wait: over how many signals and chunks they are, and the words of bits
+pub record Waiting : Type 0 where
+  pub signals : ℕ
+  pub chunks : ℕ
+  pub words : List ℕ
+
+-- how many words a chunk has
+abbrev pub row_length : ℕ → ℕ
+row_length signals = signals / 64 + 1
+
+-- word r of a chunk
+abbrev pub row_word : ℕ → List ℕ → ℕ → ℕ → ℕ
+row_word signals words chunk r = slice_index_or words (chunk * row_length signals + r) 0
+
+-- the same tasks, but for those of one word
+abbrev pub with_word : Waiting → ℕ → ℕ → ℕ → Waiting
+with_word q chunk r word = record { signals = q.signals; chunks = q.chunks; words = slice_set q.words (chunk * row_length q.signals + r) word }
+
+-- whether the signal's bit in the chunk is set
+abbrev pub has_task : Waiting → Sig → ℕ → Bool
+has_task q s chunk = is_set (row_word q.signals q.words chunk (s.0 / 64)) (s.0 % 64)
+
+-- the task of the signal in the chunk waits
+pub record Waits (q : Waiting) (s : Sig) (chunk : ℕ) : Type 0 where
+  pub signal : s.0 < q.signals
+  pub early : chunk < q.chunks
+  pub set : has_task q s chunk ≡ true
+
+-- the tasks of these signals wait in the chunk too, and no others more
+pub record Adds (targets : List Sig) (chunk : ℕ) (before after : Waiting) : Type 0 where
+  pub signals : after.signals ≡ before.signals
+  pub chunks : after.chunks ≡ before.chunks
+  pub wait : (s : Sig) → Contains targets s → Waits after s chunk
+  pub kept : (s : Sig) (c : ℕ) → Waits before s c → Waits after s c
+  pub only : (s : Sig) (c : ℕ) → Waits after s c → Waits before s c ⊎ (Contains targets s × (c ≡ chunk))
+
+-- none waits in the chunk
+abbrev pub IsIdle : Waiting → ℕ → Type 0
+IsIdle q chunk = (s : Sig) → Waits q s chunk → ⊥
+
+-- a number that is lower where fewer tasks wait
+abbrev pub waiting_measure : Waiting → ℕ
+waiting_measure q = sum q.words
+
+-- each bit is that of a signal, and a chunk whose flag is not set has none
+pub record IsKept (signals chunks : ℕ) (words : List ℕ) (flags : List Bool) : Type 0 where
+  pub few_signals : signals ≤ max_signals
+  pub few_chunks : chunks ≤ 128
+  pub size : length words ≡ chunks * row_length signals
+  pub flags_size : length flags ≡ chunks
+  pub within : (chunk r i : ℕ) → chunk < chunks → r < row_length signals → i < 64 → is_set (row_word signals words chunk r) i ≡ true → r * 64 + i < signals
+  pub flagged : (chunk r : ℕ) → chunk < chunks → r < row_length signals → slice_index_or flags chunk true ≡ false → row_word signals words chunk r ≡ 0
+
+-- a word of a chunk in which a task waits
+pub record HasTask (q : Waiting) (at : RowAt) : Type 0 where
+  pub early : at.chunk < q.chunks
+  pub row : at.row < row_length q.signals
+  pub some : row_word q.signals q.words at.chunk at.row ≢ 0
