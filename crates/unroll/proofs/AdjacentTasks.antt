@@ -114,8 +114,15 @@ reads-driven : (d : Driver) (s : Sig) → reads d s ≡ true → is_driven d ≡
 reads-driven Input s e = absurd (true≢false (sym e))
 reads-driven (Driven kind pins) s e = refl
 
+pub reader-driven : (drivers : List Driver) (s r : Sig) → Contains (other_readers drivers s) r → (r.0 < length drivers) × (is_driven (driver_at drivers r.0) ≡ true)
+reader-driven drivers s r h = (
+  All-contains (λ x. x.0 < length drivers) (other_readers drivers s) r (other_readers-within drivers s) h,
+  reads-driven (driver_at drivers r.0) s
+      (filter-passes (λ x. reads (driver_at drivers x.0) s) (signals_below (length drivers)) r (filter-member (λ x. not (eqb x.0 s.0)) (readers drivers s) r h)),
+)
+
 module _ (u : Unrolling) (chunk : ℕ) (early : chunk < chunks_in u) where
-  driven-task : (s : Sig) → s.0 < signals_in u → is_driven (driver_at u.circuit.drivers s.0) ≡ true → IsTask u (task_at u s chunk)
+  pub driven-task : (s : Sig) → s.0 < signals_in u → is_driven (driver_at u.circuit.drivers s.0) ≡ true → IsTask u (task_at u s chunk)
   driven-task s signal driven = (
     block-within u s chunk early signal,
     ap (λ (x : Sig). is_driven (driver_at u.circuit.drivers x.0)) (block-sig u s chunk early) ∙ driven,
@@ -128,10 +135,8 @@ adjacent-task u s chunk early signal t h =
       | inl own ↦ at-own (driver_at u.circuit.drivers s.0) refl own
       | inr later ↦
           let found : (r : Sig) × Contains (other_readers u.circuit.drivers s) r × (task_at u r chunk ≡ t) = map-member (λ r. task_at u r chunk) (other_readers u.circuit.drivers s) t later in
-          let among : Contains (readers u.circuit.drivers s) found.0 = filter-member (λ r. not (eqb r.0 s.0)) (readers u.circuit.drivers s) found.0 found.1 in
-          subst (IsTask u) found.2
-          (driven-task u chunk early found.0 (All-contains (λ r. r.0 < length u.circuit.drivers) (other_readers u.circuit.drivers s) found.0 (other_readers-within u.circuit.drivers s) found.1)
-          (reads-driven (driver_at u.circuit.drivers found.0.0) s (filter-passes (λ r. reads (driver_at u.circuit.drivers r.0) s) (signals_below (length u.circuit.drivers)) found.0 among)))
+          let driven = reader-driven u.circuit.drivers s found.0 found.1 in
+          subst (IsTask u) found.2 (driven-task u chunk early found.0 driven.0 driven.1)
     ]
   where
     at-own : (d : Driver) → driver_at u.circuit.drivers s.0 ≡ d → Contains (own_tasks u d s chunk) t → IsTask u t

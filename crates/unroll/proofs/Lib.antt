@@ -5,6 +5,7 @@ mod TaskBlocks
 mod TaskCells
 mod BlockLists
 mod AdjacentTasks
+mod WokenTasks
 mod ConstantTasks
 mod CellTests
 mod WaitingWords

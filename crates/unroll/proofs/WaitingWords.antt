@@ -2,10 +2,10 @@
 use Rattle.std.proofs.Common.{ℕ, suc, pow-suc, ◌≡◌, ◌-◌, ◌+◌, ◌*◌, ◌/◌, ◌%◌, ◌<◌, ◌≤◌, ◌^◌, ◌⊎◌, ◌&&◌, Bool, true, false, not, List, [], ◌∷◌, ◌++◌, length, length-set, get_or, set, sum, replicate, arith, inl, inr, sym, ap, subst, bit_and, bit_or, refl, eqb, ◌∙◌}
 use Rattle.std.specs.Int.{bit_not, w64, bit_at, trailing_zeros, leading_zeros}
 use Rattle.std.proofs.Math.Pow.{pow-lt}
-use Rattle.std.proofs.lemmas.Bool.{cases_Bool, cases_eq, cases_lt, true≢false, or_cases, or_left, or_right, and_parts}
+use Rattle.std.proofs.lemmas.Bool.{cases_Bool, cases_eq, cases_lt, true≢false, or_cases, or_left, or_right, and_from, and_parts}
 use Rattle.std.proofs.lemmas.Nat.{same_from_place, mul-add-lt, and_le_l, div-add-mod', leading_top}
 use Rattle.std.proofs.lemmas.Nat.Bits.{bit_at-trailing_zeros, bit_at_cat_high, bit_at-pow_same}
-use Rattle.std.proofs.lemmas.List.{get_or-set_same, get_or-set_other, get_or-replicate, length-replicate}
+use Rattle.std.proofs.lemmas.List.{get_or-set_same, get_or-set_other, get_or-replicate, get_or_default, length-replicate}
 use Rattle.std.proofs.Math.ListN.{get_or-eq_default}
 use Rattle.std.proofs.lemmas.List.Sums.{sum_by-set}
 use Rattle.std.proofs.lemmas.List.Elements.{Contains-append_left, Contains-append_right, Contains-append_cases}
@@ -14,9 +14,9 @@ use Rattle.std.specs.List.{Contains}
 use Rattle.sr_model.specs.declared.cells.Sig.{Sig}
 use Rattle.sr_model.specs.Limits.{max_signals}
 use Rattle.unroll.specs.Bits.{is_set}
-use Rattle.unroll.specs.Waiting.{Waiting, Waits, Adds, IsIdle, IsKept, row_length, row_word, with_word, waiting_measure}
-use Rattle.unroll.proofs.WordBits.{is_set_and, is_set_or, is_set_not, is_set_zero}
-use Rattle.unroll.proofs.Masks.{alone-set, alone-only}
+use Rattle.unroll.specs.Waiting.{Waiting, Waits, Adds, AddsBut, IsFirstRow, IsNextFrom, IsIdle, IsKept, row_length, row_word, with_word, waiting_measure}
+use Rattle.unroll.proofs.WordBits.{is_set_and, is_set_or, is_set_not, is_set_shl_high, is_set_shl_low, is_set_zero}
+use Rattle.unroll.proofs.Masks.{all-set, alone-set, alone-only}
 
 pub row-within : (q : Waiting) (s : Sig) → s.0 < q.signals → s.0 / 64 < row_length q.signals
 row-within q s h = omega (arith, h)
@@ -142,6 +142,59 @@ adds-none chunk q = record {
   only = λ t c h. inl h;
 }
 
+-- the same without the task of one signal
+pub but-more : (targets : List Sig) (but s : Sig) (chunk : ℕ) (q x y : Waiting) → AddsBut targets but chunk q x → (s ≡ but → ⊥) → Adds (s ∷ []) chunk x y → AddsBut (targets ++ s ∷ []) but chunk q y
+but-more targets but s chunk q x y first other then = record {
+  signals = then.signals ∙ first.signals;
+  chunks = then.chunks ∙ first.chunks;
+  wait = λ t h apart. elim (Contains-append_cases targets (s ∷ []) t h) [
+    | inl early ↦ then.kept t chunk (first.wait t early apart)
+    | inr last ↦ then.wait t last
+  ];
+  kept = λ t c h. then.kept t c (first.kept t c h);
+  only = λ t c h. elim (then.only t c h) [
+    | inl before ↦ elim (first.only t c before) [
+      | inl at_first ↦ inl at_first
+      | inr (among, apart, same) ↦ inr (Contains-append_left targets (s ∷ []) t among, apart, same)
+    ]
+    | inr (is, same) ↦ inr (Contains-append_right targets (s ∷ []) t is, (λ e. other (is-one s t is ∙ e)), same)
+  ];
+}
+  where
+    is-one : (x t : Sig) → Contains (x ∷ []) t → x ≡ t
+    is-one x t h =
+        elim (Contains-cases x [] t h) [
+          | inl e ↦ e
+          | inr none ↦ absurd (not_in_nil t none)
+        ]
+
+pub but-same : (targets : List Sig) (but s : Sig) (chunk : ℕ) (q x : Waiting) → AddsBut targets but chunk q x → s ≡ but → AddsBut (targets ++ s ∷ []) but chunk q x
+but-same targets but s chunk q x first same = record {
+  signals = first.signals;
+  chunks = first.chunks;
+  wait = λ t h apart. elim (Contains-append_cases targets (s ∷ []) t h) [
+    | inl early ↦ first.wait t early apart
+    | inr last ↦ elim (Contains-cases s [] t last) [
+      | inl e ↦ absurd (apart (sym e ∙ same))
+      | inr none ↦ absurd (not_in_nil t none)
+    ]
+  ];
+  kept = first.kept;
+  only = λ t c h. elim (first.only t c h) [
+    | inl before ↦ inl before
+    | inr (among, apart, early) ↦ inr (Contains-append_left targets (s ∷ []) t among, apart, early)
+  ];
+}
+
+pub but-none : (but : Sig) (chunk : ℕ) (q : Waiting) → AddsBut [] but chunk q q
+but-none but chunk q = record {
+  signals = refl;
+  chunks = refl;
+  wait = λ t h apart. absurd (not_in_nil t h);
+  kept = λ t c h. h;
+  only = λ t c h. inl h;
+}
+
 -- one less
 module _ (q : Waiting) (chunk : ℕ) (s : Sig) (old : ℕ) (was : old ≡ row_word q.signals q.words chunk (s.0 / 64)) (waits : Waits q s chunk)
     (within : chunk * row_length q.signals + s.0 / 64 < length q.words) where
@@ -189,20 +242,24 @@ module _ (q : Waiting) (chunk : ℕ) (s : Sig) (old : ℕ) (was : old ≡ row_wo
     ];
   }
 
+  left-gone : is_set left (s.0 % 64) ≡ false
+  left-gone = has-left (s.0 % 64) (omega arith) ∙ ap (λ b. is_set old (s.0 % 64) && not b) (alone-set (s.0 % 64)) ∙ and-false (is_set old (s.0 % 64)) where
+    and-false : (b : Bool) → (b && false) ≡ false
+    and-false true = refl
+    and-false false = refl
+
+  pub remove-gone : Waits removed s chunk → ⊥
+  remove-gone h = true≢false (sym h.set ∙ ap (λ w. is_set w (s.0 % 64)) (word-there q chunk (s.0 / 64) left (row-within q s waits.signal) within) ∙ left-gone)
+
   pub remove-fewer : waiting_measure removed < waiting_measure q
   remove-fewer =
       let was_set : is_set old (s.0 % 64) ≡ true = ap (λ w. is_set w (s.0 % 64)) was ∙ waits.set in
-      let now_not : is_set left (s.0 % 64) ≡ false = has-left (s.0 % 64) (omega arith) ∙ ap (λ b. is_set old (s.0 % 64) && not b) (alone-set (s.0 % 64)) ∙ and-false (is_set old (s.0 % 64)) in
       let no_more : left ≤ old = and_le_l old (bit_not w64 (2 ^ (s.0 % 64))) in
-      let other : left ≡ old → ⊥ = λ e. true≢false (sym was_set ∙ ap (λ w. is_set w (s.0 % 64)) (sym e) ∙ now_not) in
+      let other : left ≡ old → ⊥ = λ e. true≢false (sym was_set ∙ ap (λ w. is_set w (s.0 % 64)) (sym e) ∙ left-gone) in
       let sums : sum (set q.words (chunk * row_length q.signals + s.0 / 64) left) + get_or q.words (chunk * row_length q.signals + s.0 / 64) 0 ≡ sum q.words + left =
       sum_by-set (λ n. n) q.words (chunk * row_length q.signals + s.0 / 64) left 0 within in
       omega (arith, sums, was, no_more, less left old no_more other)
     where
-      and-false : (b : Bool) → (b && false) ≡ false
-      and-false true = refl
-      and-false false = refl
-
       less : (a b : ℕ) → a ≤ b → (a ≡ b → ⊥) → a < b
       less a b h other =
           elim (cases_eq a b) [
@@ -227,6 +284,77 @@ pub idle-where : (q : Waiting) (chunk : ℕ) → ((r : ℕ) → r < row_length q
 idle-where q chunk none s h =
     true≢false (sym h.set ∙ ap (λ w. is_set w (s.0 % 64)) (none (s.0 / 64) (row-within q s h.signal)) ∙ is_set_zero (s.0 % 64))
 
+-- ---- the next signal of a chunk
+
+module _ (q : Waiting) (chunk : ℕ) where
+  -- a word that is 0 has no task
+  pub none-in : (s : Sig) → row_word q.signals q.words chunk (s.0 / 64) ≡ 0 → Waits q s chunk → ⊥
+  none-in s none h = true≢false (sym h.set ∙ ap (λ w. is_set w (s.0 % 64)) none ∙ is_set_zero (s.0 % 64))
+
+  module _ (from row bits : ℕ) (first : IsFirstRow q chunk (from / 64) row)
+      (all : (s : Sig) → from ≤ s.0 → s.0 / 64 ≡ row → Waits q s chunk → is_set bits (s.0 % 64) ≡ true) where
+    -- none of the words before waits
+    before-row : (s : Sig) → from ≤ s.0 → s.0 / 64 < row → Waits q s chunk → ⊥
+    before-row s late early = none-in s (first.first (s.0 / 64) (omega (arith, late)) early)
+
+    pub next-here : (s : Sig) → ((i : ℕ) → i < 64 → is_set bits i ≡ true → from ≤ row * 64 + i) → Waits q s chunk → s.0 / 64 ≡ row → is_set bits (s.0 % 64) ≡ true
+        → ((i : ℕ) → i < s.0 % 64 → is_set bits i ≡ false) → IsNextFrom q chunk from s
+    next-here s late waits at set lowest = record {
+      waits = waits;
+      late = let h : from ≤ row * 64 + s.0 % 64 = late (s.0 % 64) (omega arith) set in omega (arith, h, at);
+      least = λ t from_on below h. elim (cases_eq (t.0 / 64) row) [
+        | inl same ↦ true≢false (sym (all t from_on same h) ∙ lowest (t.0 % 64) (omega (arith, at, same, below)))
+        | inr other ↦ before-row t from_on (omega (arith, at, other, below)) h
+      ];
+    }
+
+    module _ (none : bits ≡ 0) where
+      -- nor does one of this word
+      past-row : (s : Sig) → from ≤ s.0 → s.0 / 64 ≤ row → Waits q s chunk → ⊥
+      past-row s late within h =
+          elim (cases_eq (s.0 / 64) row) [
+            | inl same ↦ true≢false (sym (all s late same h) ∙ ap (λ w. is_set w (s.0 % 64)) none ∙ is_set_zero (s.0 % 64))
+            | inr other ↦ before-row s late (omega (arith, within, other)) h
+          ]
+
+      pub next-later : (later : ℕ) (s : Sig) → IsFirstRow q chunk (row + 1) later → Waits q s chunk → s.0 / 64 ≡ later
+          → ((i : ℕ) → i < s.0 % 64 → is_set (row_word q.signals q.words chunk later) i ≡ false) → IsNextFrom q chunk from s
+      next-later later s next waits at lowest = record {
+        waits = waits;
+        late = omega (arith, at, next.late, first.late);
+        least = λ t from_on below h. elim (cases_eq (t.0 / 64) later) [
+          | inl same ↦ true≢false (sym (ap (λ r. is_set (row_word q.signals q.words chunk r) (t.0 % 64)) (sym same) ∙ h.set) ∙ lowest (t.0 % 64) (omega (arith, at, same, below)))
+          | inr other ↦ elim (cases_lt row (t.0 / 64)) [
+            | inl above ↦ none-in t (next.first (t.0 / 64) (omega (arith, above)) (omega (arith, at, other, below))) h
+            | inr within ↦ past-row t from_on within h
+          ]
+        ];
+      }
+
+      pub none-later : ((r : ℕ) → row + 1 ≤ r → r < row_length q.signals → row_word q.signals q.words chunk r ≡ 0) → (s : Sig) → from ≤ s.0 → Waits q s chunk → ⊥
+      none-later zeros s late h =
+          elim (cases_lt row (s.0 / 64)) [
+            | inl above ↦ none-in s (zeros (s.0 / 64) (omega (arith, above)) (row-within q s h.signal)) h
+            | inr within ↦ past-row s late within h
+          ]
+
+-- the bits of a word from a signal on
+pub from-bits : (word k i : ℕ) → is_set (bit_and word (18446744073709551615 * 2 ^ k % 2 ^ 64)) i ≡ true → is_set word i ≡ true
+from-bits word k i h = (and_parts (is_set word i) (is_set (18446744073709551615 * 2 ^ k % 2 ^ 64) i) (sym (is_set_and word (18446744073709551615 * 2 ^ k % 2 ^ 64) i) ∙ h)).0
+
+pub from-late : (word k i : ℕ) → i < 64 → is_set (bit_and word (18446744073709551615 * 2 ^ k % 2 ^ 64)) i ≡ true → k ≤ i
+from-late word k i small h =
+    elim (cases_lt i k) [
+      | inl low ↦ absurd (true≢false (sym ((and_parts (is_set word i) (is_set (18446744073709551615 * 2 ^ k % 2 ^ 64) i) (sym (is_set_and word (18446744073709551615 * 2 ^ k % 2 ^ 64) i) ∙ h)).1)
+          ∙ is_set_shl_low 18446744073709551615 k i small low))
+      | inr high ↦ high
+    ]
+
+pub from-all : (word k i : ℕ) → i < 64 → k ≤ i → is_set word i ≡ true → is_set (bit_and word (18446744073709551615 * 2 ^ k % 2 ^ 64)) i ≡ true
+from-all word k i small high h =
+    is_set_and word (18446744073709551615 * 2 ^ k % 2 ^ 64) i
+    ∙ and_from (is_set word i) (is_set (18446744073709551615 * 2 ^ k % 2 ^ 64) i) h (is_set_shl_high 18446744073709551615 k i small high ∙ all-set (i - k) (omega (arith, small)))
+
 -- ---- the lowest and the highest bit of a word that is not 0
 
 positive : (n : ℕ) → (n ≡ 0 → ⊥) → 0 < n
@@ -239,6 +367,10 @@ positive n some =
 pub lowest-set : (n : ℕ) → (n ≡ 0 → ⊥) → n < 2 ^ 64 → is_set n (trailing_zeros w64 n) ≡ true
 unfolding is_set
 lowest-set n some small = ap (λ b. eqb b 1) (bit_at-trailing_zeros w64 n (positive n some) small).1
+
+pub lowest-first : (n i : ℕ) → (n ≡ 0 → ⊥) → n < 2 ^ 64 → i < trailing_zeros w64 n → is_set n i ≡ false
+unfolding is_set
+lowest-first n i some small below = ap (λ b. eqb b 1) ((bit_at-trailing_zeros w64 n (positive n some) small).2 i below)
 
 top-bit : (n j : ℕ) → 2 ^ j ≤ n → n < 2 ^ suc j → is_set n j ≡ true
 unfolding is_set
@@ -263,28 +395,28 @@ module _ (signals chunks : ℕ) (words : List ℕ) (flags : List Bool) (kept : I
       swap : (a b : ℕ) → a * b ≡ b * a
       swap a b = grind arith
 
-  pub put-kept : ((i : ℕ) → i < 64 → is_set word i ≡ true → r * 64 + i < signals)
-      → IsKept signals chunks (set words (chunk * row_length signals + r) word) (set flags chunk true)
-  put-kept new = record {
+  -- another word stands there, where the chunk's flag is set
+  pub word-kept : get_or flags chunk true ≡ true → ((i : ℕ) → i < 64 → is_set word i ≡ true → r * 64 + i < signals) → IsKept signals chunks (set words (chunk * row_length signals + r) word) flags
+  word-kept on new = record {
     few_signals = kept.few_signals;
     few_chunks = kept.few_chunks;
     size = length-set words (chunk * row_length signals + r) word ∙ kept.size;
-    flags_size = length-set flags chunk true ∙ kept.flags_size;
+    flags_size = kept.flags_size;
     within = λ c k i hc hk hi h. elim (its-word q chunk r word row place-within c k hk) [
       | inl (same, same_row, is) ↦ subst (λ n. n * 64 + i < signals) (sym same_row) (new i hi (ap (λ w. is_set w i) (sym is) ∙ h))
       | inr is ↦ kept.within c k i hc hk hi (ap (λ w. is_set w i) (sym is) ∙ h)
     ];
-    flagged = λ c k hc hk off. elim (cases_eq c chunk) [
-      | inl same ↦ absurd (true≢false (sym (ap (λ n. get_or (set flags chunk true) n true) same ∙ get_or-set_same flags chunk true true (subst (λ n. chunk < n) (sym kept.flags_size) early)) ∙ off))
-      | inr other ↦ elim (its-word q chunk r word row place-within c k hk) [
-        | inl (same, _, _) ↦ absurd (other same)
-        | inr is ↦ is ∙ kept.flagged c k hc hk (sym (get_or-set_other flags chunk c true true other) ∙ off)
-      ]
+    flagged = λ c k hc hk off. elim (its-word q chunk r word row place-within c k hk) [
+      | inl (same, _, _) ↦ absurd (true≢false (sym (ap (λ n. get_or flags n true) same ∙ on) ∙ off))
+      | inr is ↦ is ∙ kept.flagged c k hc hk off
     ];
   }
     where
       q : Waiting
       q = record { signals = signals; chunks = chunks; words = words }
+
+  pub flag-on : get_or (set flags chunk true) chunk true ≡ true
+  flag-on = get_or-set_same flags chunk true true (subst (λ n. chunk < n) (sym kept.flags_size) early)
 
   -- a chunk's flag may go where the chunk has no task
   pub idle-kept : ((k : ℕ) → k < row_length signals → row_word signals words chunk k ≡ 0) → IsKept signals chunks words (set flags chunk false)
@@ -299,6 +431,52 @@ module _ (signals chunks : ℕ) (words : List ℕ) (flags : List Bool) (kept : I
       | inr other ↦ kept.flagged c k hc hk (sym (get_or-set_other flags chunk c false true other) ∙ off)
     ];
   }
+
+-- a chunk's flag may be set
+pub flag-kept : (signals chunks : ℕ) (words : List ℕ) (flags : List Bool) → IsKept signals chunks words flags → (chunk : ℕ) → chunk < chunks → IsKept signals chunks words (set flags chunk true)
+flag-kept signals chunks words flags kept chunk early = record {
+  few_signals = kept.few_signals;
+  few_chunks = kept.few_chunks;
+  size = kept.size;
+  flags_size = length-set flags chunk true ∙ kept.flags_size;
+  within = kept.within;
+  flagged = λ c k hc hk off. elim (cases_eq c chunk) [
+    | inl same ↦ absurd (true≢false (sym (ap (λ n. get_or (set flags chunk true) n true) same ∙ flag-on signals chunks words flags kept chunk 0 0 early (omega arith)) ∙ off))
+    | inr other ↦ kept.flagged c k hc hk (sym (get_or-set_other flags chunk c true true other) ∙ off)
+  ];
+}
+
+pub put-kept : (signals chunks : ℕ) (words : List ℕ) (flags : List Bool) → IsKept signals chunks words flags → (chunk r word : ℕ) → chunk < chunks → r < row_length signals
+    → ((i : ℕ) → i < 64 → is_set word i ≡ true → r * 64 + i < signals) → IsKept signals chunks (set words (chunk * row_length signals + r) word) (set flags chunk true)
+put-kept signals chunks words flags kept chunk r word early row =
+    word-kept signals chunks words (set flags chunk true) (flag-kept signals chunks words flags kept chunk early) chunk r word early row (flag-on signals chunks words flags kept chunk r word early row)
+
+-- one more task, where the chunk's flag is set and its words begin here
+pub adds-bit : (before q : Waiting) → q.signals ≡ before.signals → q.chunks ≡ before.chunks → (flags : List Bool) → IsKept q.signals q.chunks q.words flags
+    → (chunk : ℕ) (s : Sig) → chunk < before.chunks → s.0 < before.signals → get_or flags chunk true ≡ true
+    → (start old bit : ℕ) → start ≡ chunk * row_length before.signals + 0 → old ≡ get_or q.words (start + s.0 / 64) old → bit ≡ 2 ^ (s.0 % 64)
+    → Adds (s ∷ []) chunk q (record { signals = q.signals; chunks = q.chunks; words = set q.words (start + s.0 / 64) (bit_or old bit) })
+    × IsKept q.signals q.chunks (set q.words (start + s.0 / 64) (bit_or old bit)) flags
+adds-bit before q same_signals same_chunks flags kept chunk s some few on start old bit begins was alone =
+    let early : chunk < q.chunks = omega (arith, some, same_chunks) in
+    let signal : s.0 < q.signals = omega (arith, few, same_signals) in
+    let at : start + s.0 / 64 ≡ chunk * row_length q.signals + s.0 / 64 =
+    ap (λ n. n + s.0 / 64) (begins ∙ no-more (chunk * row_length before.signals)) ∙ ap (λ n. chunk * row_length n + s.0 / 64) (sym same_signals) in
+    let row : s.0 / 64 < row_length q.signals = row-within q s signal in
+    let within : chunk * row_length q.signals + s.0 / 64 < length q.words = place-within q.signals q.chunks q.words flags kept chunk (s.0 / 64) (bit_or old (2 ^ (s.0 % 64))) early row in
+    let is : old ≡ row_word q.signals q.words chunk (s.0 / 64) =
+    was ∙ ap (λ n. get_or q.words n old) at ∙ get_or_default q.words (chunk * row_length q.signals + s.0 / 64) old 0 within in
+    subst (λ k. Adds (s ∷ []) chunk q (record { signals = q.signals; chunks = q.chunks; words = set q.words (start + s.0 / 64) (bit_or old k) }) × IsKept q.signals q.chunks (set q.words (start + s.0 / 64) (bit_or old k)) flags)
+    (sym alone)
+    (subst (λ n. Adds (s ∷ []) chunk q (record { signals = q.signals; chunks = q.chunks; words = set q.words n (bit_or old (2 ^ (s.0 % 64))) }) × IsKept q.signals q.chunks (set q.words n (bit_or old (2 ^ (s.0 % 64)))) flags)
+    (sym at) (
+      adds q chunk s old is early signal within,
+      word-kept q.signals q.chunks q.words flags kept chunk (s.0 / 64) (bit_or old (2 ^ (s.0 % 64))) early row on
+          (added-bits q chunk s old is early signal within (λ i small h. kept.within chunk (s.0 / 64) i early row small (ap (λ w. is_set w i) (sym is) ∙ h))),
+    ))
+  where
+    no-more : (n : ℕ) → n + 0 ≡ n
+    no-more n = omega arith
 
 pub zero-word : (signals chunks c k : ℕ) → row_word signals (replicate (chunks * row_length signals) 0) c k ≡ 0
 zero-word signals chunks c k =

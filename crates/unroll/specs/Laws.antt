@@ -1,6 +1,6 @@
 -- The laws of blocks and tasks, for every problem.
-use Rattle.std.specs.Prelude.{ℕ, IsTrue, ◌≡◌, ◌+◌, ◌/◌, ◌<◌, ◌↔◌, ◌⊎◌, true, false, Some}
-use Rattle.std.specs.List.{AllPairs, Contains}
+use Rattle.std.specs.Prelude.{ℕ, IsTrue, ◌≡◌, ◌+◌, ◌-◌, ◌/◌, ◌<◌, ◌↔◌, ◌⊎◌, true, false, Some}
+use Rattle.std.specs.List.{All, AllPairs, Contains}
 use Rattle.sr_model.specs.declared.cells.Sig.{Sig}
 use Rattle.sr_model.specs.declared.cells.Cell.{Cell}
 use Rattle.sr_model.specs.declared.cells.Lit.{Lit}
@@ -9,9 +9,12 @@ use Rattle.sr_model.specs.Netlist.{Instance, instance_at, cells_of}
 use Rattle.sr_model.specs.Closure.{ForcesAt, passing}
 use Rattle.netlist.specs.Wiring.{driver_at, has_signal, is_flip_flop}
 use Rattle.unroll.specs.declared.problem.Block.{Block}
+use Rattle.unroll.specs.declared.problem.InChunk.{InChunk}
 use Rattle.unroll.specs.declared.problem.Task.{Task}
-use Rattle.unroll.specs.Problem.{Unrolling, unrolled, IsProblem, signals_in, chunks_in, blocks_in, block_at, sig_at, chunk_at, block_of, bit_of, cell_of}
-use Rattle.unroll.specs.Tasks.{IsTask, IsPlaceOf, IsCellOf, CellRole, task_at, task_of, target_of, chunk_of, drives_itself, has_cell, blocks_of, blocks_from, adjacent_tasks, constant_tasks}
+use Rattle.unroll.specs.Bits.{is_set}
+use Rattle.unroll.specs.Problem.{Unrolling, unrolled, IsProblem, IsInside, signals_in, chunks_in, blocks_in, block_at, block_in, sig_at, chunk_at, block_of, bit_of, cell_of}
+use Rattle.unroll.specs.Records.{wakes_before, woken_signals}
+use Rattle.unroll.specs.Tasks.{IsTask, IsTaskAt, IsPlaceOf, IsCellOf, CellRole, task_at, task_of, target_of, chunk_of, drives_itself, has_cell, blocks_of, blocks_from, adjacent_tasks, constant_tasks}
 
 -- in a chunk that is there, the block of a signal has this signal and chunk, and is one of the blocks
 abbrev pub BlocksBySignal : Type 0
@@ -105,3 +108,26 @@ abbrev pub ForceFromNothing : Type 0
 ForceFromNothing =
     (u : Unrolling) → IsProblem u
     → AllPairs (λ a b. a.0 < b.0) (constant_tasks u) × ((t : Task) → Contains (constant_tasks u) t ↔ (IsTask u t × ForcesFromNothing u t))
+
+-- the task is one of those that wait once these bits of the signal's block in the chunk are fresh
+abbrev pub IsWoken : Unrolling → InChunk → ℕ → Task → Type 0
+IsWoken u at fresh t =
+    ((wakes_before u.circuit.drivers at.sig at.chunk fresh ≡ true) × (t ≡ task_at u at.sig (at.chunk - 1)))
+    ⊎ ((r : Sig) × Contains (woken_signals u.circuit.drivers at.sig fresh) r × (t ≡ task_at u r at.chunk))
+
+-- a task with a cell whose bit is fresh is woken
+abbrev pub FreshBitsWake : Type 0
+FreshBitsWake =
+    (u : Unrolling) (at : InChunk) (fresh : ℕ) (t : Task) (c : Cell) → IsProblem u → IsInside u at → IsTask u t → IsCellOf u t c
+    → block_of u c ≡ block_in u at → is_set fresh (bit_of c) ≡ true → IsWoken u at fresh t
+
+-- what is woken are tasks
+abbrev pub WokenAreTasks : Type 0
+WokenAreTasks = (u : Unrolling) (at : InChunk) (fresh : ℕ) (t : Task) → IsProblem u → IsInside u at → IsWoken u at fresh t → IsTask u t
+
+-- so by their signals and chunks
+abbrev pub WokenAreTargets : Type 0
+WokenAreTargets =
+    (u : Unrolling) (at : InChunk) (fresh : ℕ) → IsProblem u → IsInside u at
+    → (wakes_before u.circuit.drivers at.sig at.chunk fresh ≡ true → IsTaskAt u (record { sig = at.sig; chunk = at.chunk - 1 }))
+    × All (λ r. IsTaskAt u (record { sig = r; chunk = at.chunk })) (woken_signals u.circuit.drivers at.sig fresh)

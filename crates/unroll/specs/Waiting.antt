@@ -34,6 +34,10 @@ pub record Waits (q : Waiting) (s : Sig) (chunk : ℕ) : Type 0 where
   pub early : chunk < q.chunks
   pub set : has_task q s chunk ≡ true
 
+-- a number that is lower where fewer tasks wait
+abbrev pub waiting_measure : Waiting → ℕ
+waiting_measure q = sum q.words
+
 -- the tasks of these signals wait in the chunk too, and no others more
 pub record Adds (targets : List Sig) (chunk : ℕ) (before after : Waiting) : Type 0 where
   pub signals : after.signals ≡ before.signals
@@ -42,13 +46,32 @@ pub record Adds (targets : List Sig) (chunk : ℕ) (before after : Waiting) : Ty
   pub kept : (s : Sig) (c : ℕ) → Waits before s c → Waits after s c
   pub only : (s : Sig) (c : ℕ) → Waits after s c → Waits before s c ⊎ (Contains targets s × (c ≡ chunk))
 
+-- and so for these signals without one of them
+pub record AddsBut (targets : List Sig) (but : Sig) (chunk : ℕ) (before after : Waiting) : Type 0 where
+  pub signals : after.signals ≡ before.signals
+  pub chunks : after.chunks ≡ before.chunks
+  pub wait : (s : Sig) → Contains targets s → s ≢ but → Waits after s chunk
+  pub kept : (s : Sig) (c : ℕ) → Waits before s c → Waits after s c
+  pub only : (s : Sig) (c : ℕ) → Waits after s c → Waits before s c ⊎ (Contains targets s × (s ≢ but) × (c ≡ chunk))
+
+-- the task of the signal in the chunk waits no longer, and all others that waited do
+pub record TakesOut (taken : Sig) (chunk : ℕ) (before after : Waiting) : Type 0 where
+  pub signals : after.signals ≡ before.signals
+  pub chunks : after.chunks ≡ before.chunks
+  pub kept : (s : Sig) (c : ℕ) → Waits before s c → Waits after s c ⊎ ((s ≡ taken) × (c ≡ chunk))
+  pub only : (s : Sig) (c : ℕ) → Waits after s c → Waits before s c
+  pub gone : Waits after taken chunk → ⊥
+  pub fewer : waiting_measure after < waiting_measure before
+
+-- of the signals from a number on, it is the least whose task in the chunk waits
+pub record IsNextFrom (q : Waiting) (chunk from : ℕ) (next : Sig) : Type 0 where
+  pub waits : Waits q next chunk
+  pub late : from ≤ next.0
+  pub least : (s : Sig) → from ≤ s.0 → s.0 < next.0 → Waits q s chunk → ⊥
+
 -- none waits in the chunk
 abbrev pub IsIdle : Waiting → ℕ → Type 0
 IsIdle q chunk = (s : Sig) → Waits q s chunk → ⊥
-
--- a number that is lower where fewer tasks wait
-abbrev pub waiting_measure : Waiting → ℕ
-waiting_measure q = sum q.words
 
 -- each bit is that of a signal, and a chunk whose flag is not set has none
 pub record IsKept (signals chunks : ℕ) (words : List ℕ) (flags : List Bool) : Type 0 where
@@ -64,3 +87,10 @@ pub record HasTask (q : Waiting) (at : RowAt) : Type 0 where
   pub early : at.chunk < q.chunks
   pub row : at.row < row_length q.signals
   pub some : row_word q.signals q.words at.chunk at.row ≢ 0
+
+-- of the words of a chunk from a place on, it is the first in which a task waits
+pub record IsFirstRow (q : Waiting) (chunk from row : ℕ) : Type 0 where
+  pub late : from ≤ row
+  pub within : row < row_length q.signals
+  pub some : row_word q.signals q.words chunk row ≢ 0
+  pub first : (r : ℕ) → from ≤ r → r < row → row_word q.signals q.words chunk r ≡ 0

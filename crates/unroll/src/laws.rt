@@ -1,7 +1,8 @@
-//! The laws of blocks and tasks: functions that do nothing, each with laws as its contract.
+//! The laws of blocks and tasks and of waking: functions that do nothing, each with laws as its contract.
 ghost use Rattle.unroll.specs.Laws.{BlocksBySignal, SignalsByBlock, BitsByCell, CellsByBit, TargetsByTask, TasksByTarget};
 ghost use Rattle.unroll.specs.Laws.{CellsHaveRoles, ShareNoCell};
 ghost use Rattle.unroll.specs.Laws.{EachInOneTask, AreItsBlocks, AreItsCells, HaveItsCells, AdjoinTheirTasks, AdjacentAreTasks, ForceFromNothing};
+ghost use Rattle.unroll.specs.Laws.{FreshBitsWake, WokenAreTasks, WokenAreTargets};
 
 /// The arithmetic of blocks: a block is that of a signal and a chunk, a cell that of a block and a bit, and a task that of a target and a chunk.
 pub fn block_laws()
@@ -29,4 +30,11 @@ pub fn task_laws()
     ensures adjacent { AdjoinTheirTasks }
     ensures tasks { AdjacentAreTasks }
     ensures constant { ForceFromNothing }
+{}
+
+/// Once bits of a block are fresh, each task with the cell of such a bit is one of those that `woken` of `SignalRecords` tells, which are all tasks.
+pub fn wake_laws()
+    ensures fresh { FreshBitsWake }
+    ensures tasks { WokenAreTasks }
+    ensures targets { WokenAreTargets }
 {}

@@ -108,13 +108,14 @@ impl<'n> SignalRecords<'n> {
         ensures here { result.here.now ≡ woken_signals self.now at.sig fresh }
     {
         let adjacent = self.adjacent(at.sig);
+        let before = at.chunk > 0 && is_set(fresh, 0);
         match self.records[at.sig.0 as usize].shape {
             Shape::FlipFlop => Woken {
-                before: at.chunk > 0 && is_set(fresh, 0),
+                before,
                 here: if fresh <= 1 { &adjacent[1..] } else { adjacent },
             },
             Shape::OwnPin => Woken {
-                before: at.chunk > 0 && is_set(fresh, 0),
+                before,
                 here: adjacent,
             },
             _ => Woken {

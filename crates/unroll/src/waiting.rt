@@ -1,9 +1,9 @@
 //! The tasks that wait to be done.
-ghost use Rattle.std.specs.Prelude.{ℕ, [], ◌∷◌, replicate, false, length, ◌*◌, ◌^◌, ◌≡◌, ◌≢◌, ◌+◌, ◌<◌, ◌≤◌, ◌⊎◌, Contains, All, IfOk, IfSome, IsNone, IsTrue, IsFalse, true};
+ghost use Rattle.std.specs.Prelude.{ℕ, [], ◌∷◌, replicate, false, length, ◌*◌, ◌/◌, ◌%◌, ◌^◌, ◌≡◌, ◌≢◌, ◌+◌, ◌<◌, ◌≤◌, ◌⊎◌, Contains, All, IfOk, IfSome, IsNone, IsTrue, IsFalse, true};
 ghost use Rattle.sr_model.specs.declared.cells.Sig.{Sig as AnySig};
 ghost use Rattle.sr_model.specs.Limits.{max_signals};
 ghost use Rattle.unroll.specs.Bits.{is_set};
-ghost use Rattle.unroll.specs.Waiting.{Adds, Waits, IsIdle, row_length, row_word, waiting_measure, with_word, HasTask};
+ghost use Rattle.unroll.specs.Waiting.{Adds, AddsBut, TakesOut, IsNextFrom, IsFirstRow, Waits, IsIdle, row_length, row_word, waiting_measure, with_word, HasTask};
 
 use crate::problem::InChunk;
 use sr_model::{NoMemory, Sig};
@@ -91,8 +91,25 @@ impl WaitingTasks {
         requires chunk { chunk < self.old.chunks }
         ensures { Adds targets.now chunk self.old self.new }
     {
+        let start = self.place(chunk, 0);
+        self.flags[chunk as usize] = true;
         for sig in targets {
-            self.add(InChunk { sig: *sig, chunk });
+            self.words[start + sig.0 as usize / 64] |= alone(sig.0 % 64);
+        }
+    }
+
+    /// Lets the tasks of these signals wait in a chunk, without that of one signal.
+    pub fn add_all_but(&mut self, targets: &[Sig], chunk: u32, but: Sig)
+        requires signals { All (λ (s : AnySig). s.0 < self.old.signals) targets.now }
+        requires chunk { chunk < self.old.chunks }
+        ensures { AddsBut targets.now but chunk self.old self.new }
+    {
+        let start = self.place(chunk, 0);
+        self.flags[chunk as usize] = true;
+        for sig in targets {
+            if *sig != but {
+                self.words[start + sig.0 as usize / 64] |= alone(sig.0 % 64);
+            }
         }
     }
 
@@ -103,11 +120,86 @@ impl WaitingTasks {
         ensures chunks { self.new.chunks ≡ self.old.chunks }
         ensures kept { (s : AnySig) (c : ℕ) → Waits self.old s c → Waits self.new s c ⊎ ((s ≡ at.sig) × (c ≡ at.chunk)) }
         ensures only { (s : AnySig) (c : ℕ) → Waits self.new s c → Waits self.old s c }
+        ensures gone { Waits self.new at.sig at.chunk → ⊥ }
         ensures fewer { waiting_measure self.new < waiting_measure self.old }
     {
         let row = at.sig.0 as usize / 64;
         let word = self.word(at.chunk, row) & !alone(at.sig.0 % 64);
         self.put(at.chunk, row, word);
+    }
+
+    /// Takes out the task of the least signal from this one on whose task waits in a chunk. None exactly where there is none. No word before that of `from` is read, so a sweep
+    /// from signal to signal is linear in the words of the chunk and the tasks that are taken.
+    pub fn take_from(&mut self, chunk: u32, from: u32) -> Option<Sig>
+        requires { chunk < self.old.chunks }
+        ensures next { IfSome result (IsNextFrom self.old chunk from) }
+        ensures taken { IfSome result (λ s. TakesOut s chunk self.old self.new) }
+        ensures none { IsNone result → (s : AnySig) → from ≤ s.0 → Waits self.old s chunk → ⊥ }
+        ensures same { IsNone result → self.new ≡ self.old }
+    {
+        let sig = self.next_from(chunk, from)?;
+        self.remove(InChunk { sig, chunk });
+        Some(sig)
+    }
+
+    /// The least signal, from this one on, of those whose task waits in a chunk.
+    fn next_from(&mut self, chunk: u32, from: u32) -> Option<Sig>
+        requires { chunk < self.old.chunks }
+        ensures same { self.new ≡ self.old }
+        ensures next { IfSome result (IsNextFrom self.old chunk from) }
+        ensures none { IsNone result → (s : AnySig) → from ≤ s.0 → Waits self.old s chunk → ⊥ }
+    {
+        let row = self.row_from(chunk, from as usize / 64)?;
+        self.next_in(chunk, from, row)
+    }
+
+    /// The same, where this is the first word with a task from that of the signal on.
+    fn next_in(&self, chunk: u32, from: u32, row: usize) -> Option<Sig>
+        requires chunk { chunk < self.now.chunks }
+        requires row { IsFirstRow self.now chunk (from / 64) row }
+        ensures next { IfSome result (IsNextFrom self.now chunk from) }
+        ensures none { IsNone result → (s : AnySig) → from ≤ s.0 → Waits self.now s chunk → ⊥ }
+    {
+        let _ = &self.words;
+        let bits = self.bits_from(chunk, row, from);
+        if bits != 0 {
+            return Some(self.lowest(chunk, row, bits));
+        }
+        let later = self.first_row(chunk, row + 1)?;
+        let word = self.word(chunk, later);
+        Some(self.lowest(chunk, later, word))
+    }
+
+    /// The bits of a word that are those of signals from this one on.
+    fn bits_from(&self, chunk: u32, row: usize, from: u32) -> u64
+        requires chunk { chunk < self.now.chunks }
+        requires row { row < row_length self.now.signals }
+        requires from { from / 64 ≤ row }
+        ensures bits { (i : ℕ) → is_set result i ≡ true → is_set (row_word self.now.signals self.now.words chunk row) i ≡ true }
+        ensures late { (i : ℕ) → i < 64 → is_set result i ≡ true → from ≤ row * 64 + i }
+        ensures all { (s : AnySig) → from ≤ s.0 → s.0 / 64 ≡ row → Waits self.now s chunk → is_set result (s.0 % 64) ≡ true }
+    {
+        let word = self.word(chunk, row);
+        if from as usize / 64 < row {
+            word
+        } else {
+            word & (u64::MAX << (from % 64))
+        }
+    }
+
+    /// The signal of the lowest of these bits, which are in a word.
+    fn lowest(&self, chunk: u32, row: usize, bits: u64) -> Sig
+        requires chunk { chunk < self.now.chunks }
+        requires row { row < row_length self.now.signals }
+        requires some { bits ≢ 0 }
+        requires bits { (i : ℕ) → is_set bits i ≡ true → is_set (row_word self.now.signals self.now.words chunk row) i ≡ true }
+        ensures waits { Waits self.now result chunk }
+        ensures row { result.0 / 64 ≡ row }
+        ensures set { is_set bits (result.0 % 64) ≡ true }
+        ensures lowest { (i : ℕ) → i < result.0 % 64 → is_set bits i ≡ false }
+    {
+        let _ = &self.words;
+        Sig(row as u32 * 64 + lowest_bit(bits))
     }
 
     /// The next task of the sweep, which waits on. None exactly where none waits.
@@ -219,20 +311,33 @@ impl WaitingTasks {
         ensures some { IfSome result (HasTask self.old) }
         ensures none { IsNone result → IsIdle self.old chunk }
     {
+        let row = self.row_from(chunk, 0)?;
+        Some(RowAt { chunk, row })
+    }
+
+    /// The first word of a chunk with a task from this one on. Where the chunk's flag is not set, it reads none; where the whole chunk has none, the flag goes.
+    fn row_from(&mut self, chunk: u32, from: usize) -> Option<usize>
+        requires { chunk < self.old.chunks }
+        ensures same { self.new ≡ self.old }
+        ensures some { IfSome result (IsFirstRow self.old chunk from) }
+        ensures none { IsNone result → (r : ℕ) → from ≤ r → r < row_length self.old.signals → row_word self.old.signals self.old.words chunk r ≡ 0 }
+    {
         if !self.flags[chunk as usize] {
             return None;
         }
-        if let Some(row) = self.first_row(chunk, 0) {
-            return Some(RowAt { chunk, row });
+        if let Some(row) = self.first_row(chunk, from) {
+            return Some(row);
         }
-        self.flags[chunk as usize] = false;
+        if from == 0 {
+            self.flags[chunk as usize] = false;
+        }
         None
     }
 
     /// The first word of a chunk with a task from this one on.
     fn first_row(&self, chunk: u32, from: usize) -> Option<usize>
         requires { chunk < self.now.chunks }
-        ensures some { IfSome result (λ row. (row < row_length self.now.signals) × (row_word self.now.signals self.now.words chunk row ≢ 0)) }
+        ensures some { IfSome result (IsFirstRow self.now chunk from) }
         ensures none { IsNone result → (r : ℕ) → from ≤ r → r < row_length self.now.signals → row_word self.now.signals self.now.words chunk r ≡ 0 }
     {
         for row in from..row_len(self.signals) {
@@ -351,6 +456,7 @@ fn lowest_bit(word: u64) -> u32
     requires { word ≢ 0 }
     ensures within { result < 64 }
     ensures set { is_set word result ≡ true }
+    ensures lowest { (i : ℕ) → i < result → is_set word i ≡ false }
 {
     word.trailing_zeros()
 }

@@ -3,7 +3,7 @@ use Rattle.std.specs.Int.{bit_not, w64}
 use Rattle.sr_model.specs.declared.cells.Sig.{Sig}
 use Rattle.unroll.specs.Bits.{is_set}
 use Rattle.unroll.specs.Waiting.{Waiting, Waits, with_word, waiting_measure}
-use Rattle.unroll.proofs.WaitingWords.{left-old, remove-kept, remove-only, remove-fewer}
+use Rattle.unroll.proofs.WaitingWords.{left-old, remove-kept, remove-only, remove-gone, remove-fewer}
 use Rattle.unroll.proofs.waiting.WaitingTasks.remove.Goals as goal
 
 pub put-requires-clause-signals : goal.put-requires-clause-signals
@@ -26,3 +26,8 @@ pub returns-clause-fewer : goal.returns-clause-fewer
 returns-clause-fewer c =
     subst (λ (w : Waiting). waiting_measure w < waiting_measure c.args.self.now) (sym (c.put.ensures ∙ ap (λ b. with_word c.args.self.now c.args.at.chunk (c.args.at.sig.0 / 64) (bit_and c.word.result (bit_not w64 b))) c.alone.ensures))
     (remove-fewer c.args.self.now c.args.at.chunk c.args.at.sig c.word.result c.word.ensures.word c.requires c.word.ensures.within)
+
+pub returns-clause-gone : goal.returns-clause-gone
+returns-clause-gone c =
+    subst (λ (w : Waiting). Waits w c.args.at.sig c.args.at.chunk → ⊥) (sym (c.put.ensures ∙ ap (λ b. with_word c.args.self.now c.args.at.chunk (c.args.at.sig.0 / 64) (bit_and c.word.result (bit_not w64 b))) c.alone.ensures))
+    (remove-gone c.args.self.now c.args.at.chunk c.args.at.sig c.word.result c.word.ensures.word c.requires c.word.ensures.within)

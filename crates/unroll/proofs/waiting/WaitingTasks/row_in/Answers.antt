@@ -1,26 +1,6 @@
-use Rattle.std.proofs.Common.{◌≡◌, ◌<◌, true, false, get_or, arith, refl, sym, subst, ◌∙◌}
-use Rattle.std.proofs.lemmas.List.{get_or_default}
-use Rattle.unroll.specs.Waiting.{Waiting, IsIdle, row_length, row_word}
-use Rattle.unroll.proofs.WaitingWords.{idle-kept, idle-where}
+use Rattle.std.proofs.Common.{refl, arith}
+use Rattle.unroll.proofs.WaitingWords.{idle-where}
 use Rattle.unroll.proofs.waiting.WaitingTasks.row_in.Goals as goal
 
-pub returns-then-not-index-clause-none : goal.returns-then-not-index-clause-none
-returns-then-not-index-clause-none c none =
-    let early : c.args.chunk < c.self.inside.chunks = subst (λ (w : Waiting). c.args.chunk < w.chunks) (sym c.self.view_is) c.requires in
-    let off : get_or c.self.inside.flags.items c.args.chunk true ≡ false =
-    get_or_default c.self.inside.flags.items c.args.chunk true c.index.result.now (subst (λ n. c.args.chunk < n) (sym c.self.invariant.0.flags_size) early) ∙ sym c.index.ensures ∙ c.if-not-index.true in
-    subst (λ (w : Waiting). IsIdle w c.args.chunk) c.self.view_is
-    (idle-where (record { signals = c.self.inside.signals; chunks = c.self.inside.chunks; words = c.self.inside.words.items }) c.args.chunk (λ r row. c.self.invariant.0.flagged c.args.chunk r early row off))
-
-pub invariant_of-self : goal.invariant_of-self
-invariant_of-self c = (
-  idle-kept c.self.inside.signals c.self.inside.chunks c.self.inside.words.items c.self.inside.flags.items c.self.invariant.0 c.args.chunk 0 0
-      (subst (λ (w : Waiting). c.args.chunk < w.chunks) (sym c.self.view_is) c.requires) (omega arith)
-      (λ r row. subst (λ (w : Waiting). row_word w.signals w.words c.args.chunk r ≡ 0) (sym c.self.view_is)
-      (c.in_default.ensures.none refl r (omega arith) (subst (λ (w : Waiting). r < row_length w.signals) c.self.view_is row))),
-  c.self.invariant.1,
-  c.self.invariant.2,
-)
-
-pub returns-clause-none : goal.returns-clause-none
-returns-clause-none c none = idle-where c.args.self.now c.args.chunk (λ r row. c.in_default.ensures.none refl r (omega arith) row)
+pub returns-in_err-row-clause-none : goal.returns-in_err-row-clause-none
+returns-in_err-row-clause-none c none = idle-where c.args.self.now c.args.chunk (λ r row. c.in_err-row.ensures.none refl r (omega arith) row)

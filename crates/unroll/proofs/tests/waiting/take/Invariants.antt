@@ -1,0 +1,5 @@
+use Rattle.std.proofs.Common.{◌≡◌}
+use Rattle.unroll.proofs.tests.waiting.take.Given as goal
+
+abbrev pub invariant-loop-task : goal.invariant-loop-task
+invariant-loop-task g l = (l.waiting.signals ≡ 200) × (l.waiting.chunks ≡ 4)
