@@ -1,5 +1,5 @@
 -- The blocks of a flip-flop's cells in a chunk: which bits stand for the cells of its instances, and what its task forces of them.
-use Rattle.std.proofs.Common.{ℕ, ◌≡◌, ◌+◌, ◌-◌, ◌*◌, ◌/◌, ◌%◌, ◌<◌, ◌≤◌, ◌⊎◌, ◌↔◌, ◌&&◌, ◌||◌, Bool, true, eqb, ltb, List, [], ◌∷◌, arith, inl, inr, sym, ap, ◌∙◌, subst}
+use Rattle.std.proofs.Common.{ℕ, ◌≡◌, ◌+◌, ◌-◌, ◌*◌, ◌/◌, ◌%◌, ◌<◌, ◌≤◌, ◌↔◌, ◌&&◌, ◌||◌, Bool, true, eqb, ltb, List, [], ◌∷◌, arith, inl, inr, sym, ap, ◌∙◌, subst}
 use Rattle.std.specs.Prelude.{IsTrue}
 use Rattle.std.proofs.lemmas.Bool.{cases_lt, cond-true, cond-false, lt-ltb, le-ltb, ltb-true, eqb-true, eq-eqb, and_parts, and_from, or_cases, or_left, or_right}
 use Rattle.sr_model.specs.declared.gates.Kind.TheVariants.{Dff}
@@ -18,7 +18,7 @@ use Rattle.unroll.proofs.lemmas.Laws.{block-sig, block-chunk, block-itself, cycl
 use Rattle.gate_rules.specs.declared.flip_flops.CellBlocks.{CellBlocks}
 use Rattle.gate_rules.specs.Forced.{ForcedInCycles, words_of, view_has}
 use Rattle.gate_rules.specs.FlipFlopBits.{is_set_after, is_shared, is_bit_of}
-use Rattle.gate_rules.proofs.FlipFlopForced.{IsShared, task-forces}
+use Rattle.gate_rules.proofs.FlipFlopShared.{IsShownAt, shared-says, shown-forced}
 
 -- a cycle by its chunk and bit
 digits : (m i c j : ℕ) → i < 64 → j < 64 → 64 * m + i ≡ 64 * c + j → (m ≡ c) × (i ≡ j)
@@ -26,7 +26,7 @@ digits m i c j p q e = (omega arith, omega arith)
 
 module _ (u : Unrolling) where
   -- the cell of a bit of a signal's block
-  cell-of : (s : Sig) (c i : ℕ) → c < chunks_in u → cell_of u (block_at u s c) i ≡ cell_at (64 * c + i) s
+  pub cell-of : (s : Sig) (c i : ℕ) → c < chunks_in u → cell_of u (block_at u s c) i ≡ cell_at (64 * c + i) s
   cell-of s c i early =
       ap (λ n. cell_at (64 * n + i) (sig_at u (block_at u s c))) (block-chunk u s c early) ∙ ap (cell_at (64 * c + i)) (block-sig u s c early)
 
@@ -74,19 +74,6 @@ module _ (u : Unrolling) (target pin : Sig) (chunk : ℕ) (early : chunk < chunk
 
   module _ (valid mask : ℕ) (is_valid : (i : ℕ) → i < 64 → is_set valid i ≡ (is_cycle u.cycles chunk (i + 1) && is_set mask i)) (blocks : List Block) (view : List PinWord) (bit : Bool) (shared : ℕ)
       (is : (i : ℕ) → i < 64 → is_set shared i ≡ is_shared (word_for bit (words_of blocks view cells.pin)) (word_for bit (words_of blocks view cells.own)) (word_for bit (words_of blocks view cells.next)) valid i) where
-    -- the literal is known of either cell of the instance of a bit
-    abbrev KnownAt : ℕ → Type 0
-    KnownAt k = (view_has u blocks view (lit (cell_at (64 * chunk + k) pin) bit) ≡ true) ⊎ (view_has u blocks view (lit (cell_at (64 * chunk + k + 1) target) bit) ≡ true)
-
-    in-time : (k : ℕ) → k < 64 → (is_set valid k ≡ true) ↔ ((64 * chunk + k + 1 < u.cycles) × (is_set mask k ≡ true))
-    in-time k h = (
-      λ set.
-          let both : (is_cycle u.cycles chunk (k + 1) ≡ true) × (is_set mask k ≡ true) = and_parts (is_cycle u.cycles chunk (k + 1)) (is_set mask k) (sym (is_valid k h) ∙ set) in
-          let below : 64 * chunk + (k + 1) < u.cycles = ltb-true (64 * chunk + (k + 1)) u.cycles both.0 in
-          (omega (arith, below), both.1),
-      λ (below, masked). is_valid k h ∙ and_from (is_cycle u.cycles chunk (k + 1)) (is_set mask k) (lt-ltb (64 * chunk + (k + 1)) u.cycles (omega (arith, below))) masked,
-    )
-
     pin-known : (k : ℕ) → k < 64 → 64 * chunk + k + 1 < u.cycles → is_set (word_for bit (words_of blocks view cells.pin)) k ≡ view_has u blocks view (lit (cell_at (64 * chunk + k) pin) bit)
     pin-known k h below = ap (λ b. is_set (word_for bit (words_of blocks view b)) k) at_pin ∙ known-at u blocks view bit pin chunk k h (omega arith)
 
@@ -97,49 +84,18 @@ module _ (u : Unrolling) (target pin : Sig) (chunk : ℕ) (early : chunk < chunk
         ∙ ap (λ b. is_set_after (word_for bit (words_of blocks view (block_at u target chunk))) (word_for bit (words_of blocks view b)) k) at_next
         ∙ known-after u blocks view bit target chunk k h below
 
-    shared-says : (k : ℕ) → k < 64 → (is_set shared k ≡ true) ↔ ((64 * chunk + k + 1 < u.cycles) × (is_set mask k ≡ true) × KnownAt k)
-    shared-says k h =
-        let pins : Bool = is_set (word_for bit (words_of blocks view cells.pin)) k in
-        let later : Bool = is_set_after (word_for bit (words_of blocks view cells.own)) (word_for bit (words_of blocks view cells.next)) k in (
-          λ set.
-              let parts = and_parts (is_set (word_for bit (words_of blocks view cells.pin)) k || is_set_after (word_for bit (words_of blocks view cells.own)) (word_for bit (words_of blocks view cells.next)) k)
-              (is_set valid k) (sym (is k h) ∙ set) in
-              let timely : (64 * chunk + k + 1 < u.cycles) × (is_set mask k ≡ true) = (in-time k h).0 parts.1 in
-              let below : 64 * chunk + k + 1 < u.cycles = timely.0 in (
-                below,
-                timely.1,
-                elim (or_cases (is_set (word_for bit (words_of blocks view cells.pin)) k) (is_set_after (word_for bit (words_of blocks view cells.own)) (word_for bit (words_of blocks view cells.next)) k) parts.0) [
-                  | inl p ↦ inl (sym (pin-known k h below) ∙ p)
-                  | inr o ↦ inr (sym (after-known k h below) ∙ o)
-                ],
-              ),
-          λ (below, masked, either).
-              is k h ∙ and_from (is_set (word_for bit (words_of blocks view cells.pin)) k || is_set_after (word_for bit (words_of blocks view cells.own)) (word_for bit (words_of blocks view cells.next)) k)
-              (is_set valid k) (elim either [
-                | inl p ↦ or_left pins later (pin-known k h below ∙ p)
-                | inr o ↦ or_right pins later (after-known k h below ∙ o)
-              ]) ((in-time k h).1 (below, masked)),
-        )
-
     next-chunk : is_set shared 63 ≡ true → chunk + 1 < chunks_in u
     next-chunk set =
-        let below : 64 * chunk + 63 + 1 < u.cycles = ((shared-says 63 (omega arith)).0 set).0 in
+        let below : 64 * chunk + 63 + 1 < u.cycles = ((shared-says u target pin chunk early (view_has u blocks view) valid mask is_valid bit (word_for bit (words_of blocks view cells.pin)) (word_for bit (words_of blocks view cells.own)) (word_for bit (words_of blocks view cells.next)) shared is pin-known after-known 63 (omega arith)).0 set).0 in
         subst (λ n. n < chunks_in u) (whole chunk) (cycle-chunk u (64 * chunk + 63 + 1) below)
       where
         whole : (n : ℕ) → (64 * n + 63 + 1) / 64 ≡ n + 1
         whole n = omega arith
 
-    -- the bit of a block is that of a cell of the instance of some bit of the word
-    record IsAt (b : Block) (i : ℕ) : Type 0 where
-      pub lane : ℕ
-      pub within : lane < 64
-      pub set : is_set shared lane ≡ true
-      pub cell : (cell_of u b i ≡ cell_at (64 * chunk + lane) pin) ⊎ (cell_of u b i ≡ cell_at (64 * chunk + lane + 1) target)
-
     same-block : (b c : Block) → eqb b.0 c.0 ≡ true → b ≡ c
     same-block b c e = ap (λ n. record { 0 = n }) (eqb-true b.0 c.0 e)
 
-    found : (b : Block) (i : ℕ) → i < 64 → is_bit_of cells b shared i ≡ true → IsAt b i
+    found : (b : Block) (i : ℕ) → i < 64 → is_bit_of cells b shared i ≡ true → IsShownAt target pin chunk shared (cell_of u b i)
     found b i h set =
         elim (or_cases (eqb b.0 cells.pin.0 && is_set shared i)
         ((eqb b.0 cells.own.0 && (ltb 0 i && is_set shared (i - 1))) || (eqb b.0 cells.next.0 && (eqb i 0 && is_set shared 63))) set) [
@@ -179,7 +135,7 @@ module _ (u : Unrolling) (target pin : Sig) (chunk : ℕ) (early : chunk < chunk
         carry : (m n : ℕ) → n ≡ 0 → 64 * (m + 1) + n ≡ 64 * m + 63 + 1
         carry m n e = omega arith
 
-    is-in : (b : Block) (i : ℕ) → i < 64 → IsAt b i → is_bit_of cells b shared i ≡ true
+    is-in : (b : Block) (i : ℕ) → i < 64 → IsShownAt target pin chunk shared (cell_of u b i) → is_bit_of cells b shared i ≡ true
     is-in b i h a =
         elim a.cell [
           | inl e ↦
@@ -221,37 +177,6 @@ module _ (u : Unrolling) (target pin : Sig) (chunk : ℕ) (early : chunk < chunk
     pub block-forced : driver_at u.circuit.drivers target.0 ≡ Driven Dff (pin ∷ []) → (b : Block) (i : ℕ) → i < 64
         → IsTrue (is_bit_of cells b shared i) ↔ ForcedInCycles u (task_at u target chunk) mask (view_has u blocks view) (lit (cell_of u b i) bit)
     block-forced driver b i h =
-        let exact = task-forces u target pin chunk mask early driver (view_has u blocks view) (cell_of u b i) bit in (
-          λ set.
-              let a : IsAt b i = found b i h set in
-              let says : (64 * chunk + a.lane + 1 < u.cycles) × (is_set mask a.lane ≡ true) × KnownAt a.lane = (shared-says a.lane a.within).0 a.set in
-              exact.1 (record {
-                cycle = 64 * chunk + a.lane;
-                in_chunk = lane-chunk chunk a.lane a.within;
-                in_time = says.0;
-                in_mask = ap (is_set mask) (lane-bit chunk a.lane a.within) ∙ says.1;
-                has_cell = a.cell;
-                is_known = says.2;
-              }),
-          λ f.
-              let s : IsShared u target pin chunk mask (view_has u blocks view) (cell_of u b i) bit = exact.0 f in
-              let within : s.cycle % 64 < 64 = below s.cycle in
-              let at : s.cycle ≡ 64 * chunk + s.cycle % 64 = cycle s.cycle chunk s.in_chunk in
-              let known : (64 * chunk + s.cycle % 64 + 1 < u.cycles) × (is_set mask (s.cycle % 64) ≡ true) × KnownAt (s.cycle % 64) = (
-                subst (λ n. n + 1 < u.cycles) at s.in_time,
-                s.in_mask,
-                subst (λ n. (view_has u blocks view (lit (cell_at n pin) bit) ≡ true) ⊎ (view_has u blocks view (lit (cell_at (n + 1) target) bit) ≡ true)) at s.is_known,
-              ) in
-              is-in b i h (record {
-                lane = s.cycle % 64;
-                within = within;
-                set = (shared-says (s.cycle % 64) within).1 known;
-                cell = subst (λ n. (cell_of u b i ≡ cell_at n pin) ⊎ (cell_of u b i ≡ cell_at (n + 1) target)) at s.has_cell;
-              }),
-        )
-      where
-        below : (n : ℕ) → n % 64 < 64
-        below n = omega arith
-
-        cycle : (n c : ℕ) → n / 64 ≡ c → n ≡ 64 * c + n % 64
-        cycle n c e = omega arith
+        let exact = shown-forced u target pin chunk early (view_has u blocks view) valid mask is_valid bit (word_for bit (words_of blocks view cells.pin)) (word_for bit (words_of blocks view cells.own))
+        (word_for bit (words_of blocks view cells.next)) shared is pin-known after-known driver (cell_of u b i) in
+        (λ set. exact.0 (found b i h set), λ f. is-in b i h (exact.1 f))

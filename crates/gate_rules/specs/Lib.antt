@@ -1,4 +1,6 @@
 pub mod AndLikeBits
+pub mod FewPinBits
+pub mod FewPins
 pub mod FlipFlopBits
 pub mod Forced
 pub mod Lanes

@@ -49,10 +49,7 @@ impl CellBlocks {
         let pin = words_beside(blocks, view, self.pin);
         let own = words_beside(blocks, view, self.own);
         let next = words_beside(blocks, view, self.next);
-        PinWord {
-            zero: shared_bits(pin.zero, own.zero, next.zero, valid),
-            one: shared_bits(pin.one, own.one, next.one, valid),
-        }
+        shared_words(pin, own, next, valid)
     }
 
     /// The literals that are so forced in a block. One block is both `pin` and `own` where the flip-flop is its own data pin.
@@ -99,7 +96,19 @@ fn words_beside(blocks: &Blocks, view: &PinWords, block: Block) -> PinWord
     PinWord::none()
 }
 
-/// A bit for each instance whose literal is known of the data pin, or of the flip-flop one cycle later.
+/// A bit for each instance, by the cycle of its data pin: the literals that are known of the data pin, or of the flip-flop one cycle later.
+#[inline]
+pub(crate) fn shared_words(pin: PinWord, own: PinWord, next: PinWord, valid: u64) -> PinWord
+    ensures { (i : ℕ) (bit : Bool) → i < 64 → is_set (word_for bit result) i ≡ is_shared (word_for bit pin) (word_for bit own) (word_for bit next) valid i }
+{
+    PinWord {
+        zero: shared_bits(pin.zero, own.zero, next.zero, valid),
+        one: shared_bits(pin.one, own.one, next.one, valid),
+    }
+}
+
+/// The same of one literal.
+#[inline]
 #[tactic(auto, using(crate::proofs::FlipFlopWords::shared_set))]
 fn shared_bits(pin: u64, own: u64, next: u64, valid: u64) -> u64
     ensures { (i : ℕ) → i < 64 → is_set result i ≡ is_shared pin own next valid i }

@@ -1,4 +1,5 @@
 //! The rules beside a plain walk over the rows of the definition.
+mod few_pins;
 mod flip_flops;
 mod gates;
 

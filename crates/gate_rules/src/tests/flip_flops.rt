@@ -1,4 +1,5 @@
 //! Flip-flops over two chunks and in the last one, bit by bit.
+use super::few_pins::check_flip_flop;
 use super::net_of;
 use crate::{forced, forced_in_cycles};
 use netlist::Netlist;
@@ -134,6 +135,11 @@ fn check_chunk(
     let blocks = blocks_in(rt, alloc, problem, chunk)?;
     let view = noise_for(alloc, problem, &blocks)?;
     let out = forced_words(rt, alloc, problem, (chunk, mask), &view)?;
+    if mask == u64::MAX && pin != 0 {
+        assert!(rt; chunk < problem.chunks());
+        let valid = problem.valid_next_bits(chunk);
+        check_flip_flop(rt, valid, view.as_slice(), out.as_slice());
+    }
     for cycle in 0..192 {
         for cell in [(0, cycle), (pin, cycle)] {
             for bit in [false, true] {

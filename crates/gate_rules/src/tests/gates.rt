@@ -1,10 +1,11 @@
 //! Gates of up to four pins, in every state of every cell.
 //!
 //! A state has two bits a cell, for its literals 0 and 1; a row has one bit a cell. Cell 0 is the target, and the others are the pins' signals.
+use super::few_pins::check_gate;
 use super::net_of;
 use crate::{Count, apply, forced, forced_in_cycles};
 use netlist::Netlist;
-use sr_model::{Kind, MAX_GATE_SIGNALS};
+use sr_model::{Kind, MAX_GATE_SIGNALS, Sig};
 use std::alloc::Global;
 use std::process::Abort;
 use std::test::Fail;
@@ -230,7 +231,7 @@ fn check_states(
     rt: &impl Abort,
     alloc: Global,
     problem: &Problem<'_>,
-    rows: &[u32],
+    (kind, rows): (Kind, &[u32]),
     first: u32,
     cells: u32,
 ) -> Result<(), Fail> {
@@ -238,6 +239,11 @@ fn check_states(
     let all = forced_words(rt, alloc, problem, &view)?;
     let new = new_words(rt, alloc, problem, &view)?;
     let masked = masked_words(rt, alloc, problem, MASK, &view)?;
+    let net = problem.net();
+    assert!(rt; net.signals() > 0);
+    if net.pins_of(Sig(0)).len() + 1 == view.len() {
+        check_gate(rt, kind, &view, &all, &new);
+    }
     let states = 1u32 << (2 * cells.min(5));
     for lane in 0..64u32 {
         let known = first.wrapping_add(lane) % states;
@@ -267,7 +273,7 @@ fn check(rt: &impl Abort, alloc: Global, kind: Kind, pins: &[u32]) -> Result<(),
     let rows = rows_of(alloc, kind, pins, cells)?;
     for block in 0..16 {
         if 64 * block < 1u32 << (2 * cells.min(5)) {
-            check_states(rt, alloc, &problem, &rows, 64 * block, cells)?;
+            check_states(rt, alloc, &problem, (kind, &rows), 64 * block, cells)?;
         }
     }
     Ok(())
