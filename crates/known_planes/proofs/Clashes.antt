@@ -1,22 +1,20 @@
 -- Cells of which planes have both literals, by signal, chunk and bit.
-use Rattle.std.proofs.Common.{ℕ, ◌≡◌, ◌+◌, ◌*◌, ◌/◌, ◌%◌, ◌<◌, ◌≤◌, ◌↔◌, ◌^◌, ◌&&◌, ◌||◌, Bool, true, false, eqb, get_or, arith, inl, inr, sym, ap, subst, bit_or, bit_and, ◌∙◌}
+use Rattle.std.proofs.Common.{ℕ, ◌≡◌, ◌+◌, ◌*◌, ◌/◌, ◌%◌, ◌<◌, ◌≤◌, ◌↔◌, ◌^◌, ◌&&◌, ◌||◌, true, false, eqb, arith, inl, inr, sym, ap, subst, bit_or, ◌∙◌}
 use Rattle.std.specs.Int.{bit_at, trailing_zeros, w64}
 use Rattle.std.specs.Prelude.{IsTrue, nat_lt}
-use Rattle.std.proofs.lemmas.Bool.{cases_eq, cases_lt, cases_order, cases_Bool, ltb-true, and_parts, and_from, or_cases, or_left, or_right, true≢false}
+use Rattle.std.proofs.lemmas.Bool.{cases_eq, cases_lt, cases_order, and_parts, and_from, or_cases, or_left, or_right, true≢false}
 use Rattle.std.proofs.lemmas.Nat.Bits.{bit_at-trailing_zeros}
-use Rattle.std.proofs.Math.ListN.{get_or-eq_default}
-use Rattle.std.proofs.Math.Nat.{mul-le-mul_right}
 use Rattle.sr_model.specs.declared.cells.Sig.{Sig}
 use Rattle.sr_model.specs.declared.cells.Cell.{Cell}
 use Rattle.sr_model.specs.Order.{CellLe}
 use Rattle.sr_model.specs.Closure.{HasBoth, IsLeastClash, lit}
 use Rattle.unroll.specs.declared.words.PinWord.{PinWord}
-use Rattle.unroll.specs.Bits.{is_set, word_for, no_words}
-use Rattle.unroll.specs.Problem.{Unrolling, signals_in, chunks_in, block_at, block_of, bit_of}
+use Rattle.unroll.specs.Bits.{is_set}
+use Rattle.unroll.specs.Problem.{Unrolling, signals_in, chunks_in, block_of, bit_of}
 use Rattle.unroll.proofs.lemmas.Words.{is_set_or, is_set_zero}
 use Rattle.unroll.proofs.lemmas.Laws.{cycle-chunk}
 use Rattle.known_planes.specs.Planes.{PlaneSet, words_at, pair_in, lits, IsOf}
-use Rattle.known_planes.specs.Clash.{has_both_at}
+use Rattle.known_planes.specs.Clash.{has_both_at, lits_in_chunk}
 use Rattle.known_planes.proofs.Members.{in-block}
 use Rattle.known_planes.proofs.PlanesLaws.{literals_are_of_cells}
 use Rattle.known_planes.proofs.SignalCounts.{bit-has}
@@ -51,24 +49,6 @@ each-more planes chunk signals both more w is more_is before i = (found, set)
               or_right (is_set both i) (has_both_at planes signals chunk i) (subst (λ s. IsTrue (has_both_at planes s chunk i)) same one.2)
         ]
 
--- no cell before the chunk has both literals
-abbrev pub HasNoneBefore : PlaneSet → ℕ → Type 0
-HasNoneBefore planes chunk = (c s i : ℕ) → c < chunk → s < planes.signals → has_both_at planes s c i ≡ false
-
-pub none-more : (planes : PlaneSet) (chunk both : ℕ) → HasEach planes chunk planes.signals both → both ≡ 0 → HasNoneBefore planes chunk → HasNoneBefore planes (chunk + 1)
-none-more planes chunk both each zero before c s i h k =
-    elim (cases_lt c chunk) [
-      | inl below ↦ before c s i below k
-      | inr last ↦
-          let same : c ≡ chunk = omega (arith, h, last) in
-          elim (cases_Bool (has_both_at planes s c i)) [
-            | inr no_clash ↦ no_clash
-            | inl clash ↦
-                let set : IsTrue (is_set both i) = (each i).1 (s, k, subst (λ n. IsTrue (has_both_at planes s n i)) same clash) in
-                absurd (true≢false (sym set ∙ ap (λ n. is_set n i) zero ∙ is_set_zero i))
-          ]
-    ]
-
 -- the lowest bit of a word that is not 0
 pub lowest-bit : (n : ℕ) → (n ≡ 0 → ⊥) → n < 2 ^ 64 → (trailing_zeros w64 n < 64) × IsTrue (is_set n (trailing_zeros w64 n)) × ((i : ℕ) → i < trailing_zeros w64 n → is_set n i ≡ false)
 unfolding is_set
@@ -78,6 +58,10 @@ lowest-bit n some small =
   where
     positive : (n : ℕ) → (n ≡ 0 → ⊥) → 0 < n
     positive n some = elim (cases_eq n 0) [ inl z ↦ absurd (some z) | inr z ↦ omega (arith, z) ]
+
+-- no cell before the chunk has both literals
+abbrev pub HasNoneBefore : Unrolling → PlaneSet → ℕ → Type 0
+HasNoneBefore u planes chunk = (d : Cell) → d.cycle / 64 < chunk → HasBoth (lits u planes) d → ⊥
 
 module _ (u : Unrolling) (planes : PlaneSet) (of : IsOf u planes) where
   -- a cell with both literals is one, and its bit is set in both words
@@ -100,33 +84,31 @@ module _ (u : Unrolling) (planes : PlaneSet) (of : IsOf u planes) where
       let parts : (is_set (pair_in planes s.0 chunk).zero i ≡ true) × (is_set (pair_in planes s.0 chunk).one i ≡ true) = and_parts (is_set (pair_in planes s.0 chunk).zero i) (is_set (pair_in planes s.0 chunk).one i) both in
       (sym (bit-has u planes of s h false chunk i k few) ∙ parts.0, sym (bit-has u planes of s h true chunk i k few) ∙ parts.1)
 
-  -- the first one by chunk, bit and signal is the least cell
+  -- the first one by bit and signal is the least cell of the chunk
   pub least-clash : (chunk i : ℕ) (s : Sig) (both : ℕ) → chunk < chunks_in u → s.0 < planes.signals → i < 64 → IsTrue (has_both_at planes s.0 chunk i)
-      → HasNoneBefore planes chunk → HasEach planes chunk planes.signals both → ((j : ℕ) → j < i → is_set both j ≡ false) → ((t : ℕ) → t < s.0 → has_both_at planes t chunk i ≡ false)
-      → IsLeastClash (lits u planes) (record { cycle = 64 * chunk + i; sig = s })
-  least-clash chunk i s both k h few clash before each lowest first =
+      → HasEach planes chunk planes.signals both → ((j : ℕ) → j < i → is_set both j ≡ false) → ((t : ℕ) → t < s.0 → has_both_at planes t chunk i ≡ false)
+      → IsLeastClash (lits_in_chunk u planes chunk) (record { cycle = 64 * chunk + i; sig = s })
+  least-clash chunk i s both k h few clash each lowest first =
+      let here : HasBoth (lits u planes) (record { cycle = 64 * chunk + i; sig = s }) = both-here s chunk i (subst (λ n. s.0 < n) of.signals h) k few clash in
+      let place : (64 * chunk + i) / 64 ≡ chunk = omega (arith, few) in
       record {
-        both = both-here s chunk i (subst (λ n. s.0 < n) of.signals h) k few clash;
+        both = ((here.0, place), (here.1, place));
         least = least;
       }
     where
-      least : (d : Cell) → HasBoth (lits u planes) d → CellLe (record { cycle = 64 * chunk + i; sig = s }) d
+      least : (d : Cell) → HasBoth (lits_in_chunk u planes chunk) d → CellLe (record { cycle = 64 * chunk + i; sig = s }) d
       least d known =
-          let at : (d.cycle < u.cycles) × (d.sig.0 < signals_in u) × IsTrue (has_both_at planes d.sig.0 (d.cycle / 64) (d.cycle % 64)) = both-there d known in
+          let at : (d.cycle < u.cycles) × (d.sig.0 < signals_in u) × IsTrue (has_both_at planes d.sig.0 (d.cycle / 64) (d.cycle % 64)) = both-there d (known.0.0, known.1.0) in
           let d_in : d.sig.0 < planes.signals = subst (λ n. d.sig.0 < n) (sym of.signals) at.1 in
-          elim (cases_order (d.cycle / 64) chunk) [
-            | inr (inl below) ↦ absurd (true≢false (sym at.2 ∙ before (d.cycle / 64) d.sig.0 (d.cycle % 64) below d_in))
-            | inr (inr above) ↦ inl (omega (arith, above, few))
-            | inl same ↦
-                let here : IsTrue (has_both_at planes d.sig.0 chunk (d.cycle % 64)) = subst (λ n. IsTrue (has_both_at planes d.sig.0 n (d.cycle % 64))) same at.2 in
-                elim (cases_order (d.cycle % 64) i) [
-                  | inr (inl lower) ↦ absurd (true≢false (sym ((each (d.cycle % 64)).1 (d.sig.0, d_in, here)) ∙ lowest (d.cycle % 64) lower))
-                  | inr (inr higher) ↦ inl (omega (arith, same, higher))
-                  | inl one ↦
-                      elim (cases_lt d.sig.0 s.0) [
-                        | inl lower ↦ absurd (true≢false (sym (subst (λ n. IsTrue (has_both_at planes d.sig.0 chunk n)) one here) ∙ first d.sig.0 lower))
-                        | inr later ↦ inr (omega (arith, same, one), later)
-                      ]
+          let same : d.cycle / 64 ≡ chunk = known.0.1 in
+          let here : IsTrue (has_both_at planes d.sig.0 chunk (d.cycle % 64)) = subst (λ n. IsTrue (has_both_at planes d.sig.0 n (d.cycle % 64))) same at.2 in
+          elim (cases_order (d.cycle % 64) i) [
+            | inr (inl lower) ↦ absurd (true≢false (sym ((each (d.cycle % 64)).1 (d.sig.0, d_in, here)) ∙ lowest (d.cycle % 64) lower))
+            | inr (inr higher) ↦ inl (omega (arith, same, higher))
+            | inl one ↦
+                elim (cases_lt d.sig.0 s.0) [
+                  | inl lower ↦ absurd (true≢false (sym (subst (λ n. IsTrue (has_both_at planes d.sig.0 chunk n)) one here) ∙ first d.sig.0 lower))
+                  | inr later ↦ inr (omega (arith, same, one), later)
                 ]
           ]
 
@@ -138,9 +120,29 @@ module _ (u : Unrolling) (planes : PlaneSet) (of : IsOf u planes) where
       let found : (s : ℕ) × (s < planes.signals) × IsTrue (has_both_at planes s chunk (trailing_zeros w64 both)) = (each (trailing_zeros w64 both)).0 bit.1 in
       true≢false (sym found.2 ∙ none found.0 found.1)
 
-  -- where no chunk has one there is none
-  pub no-clash : (chunk : ℕ) → chunks_in u ≤ chunk → HasNoneBefore planes chunk → (d : Cell) → HasBoth (lits u planes) d → ⊥
-  no-clash chunk all before d known =
+  -- a word that is 0 is that of a chunk without one
+  pub none-here : (chunk both : ℕ) → HasEach planes chunk planes.signals both → both ≡ 0 → (d : Cell) → d.cycle / 64 ≡ chunk → HasBoth (lits u planes) d → ⊥
+  none-here chunk both each zero d same known =
       let at : (d.cycle < u.cycles) × (d.sig.0 < signals_in u) × IsTrue (has_both_at planes d.sig.0 (d.cycle / 64) (d.cycle % 64)) = both-there d known in
-      let early : d.cycle / 64 < chunks_in u = cycle-chunk u d.cycle at.0 in
-      true≢false (sym at.2 ∙ before (d.cycle / 64) d.sig.0 (d.cycle % 64) (omega (arith, early, all)) (subst (λ n. d.sig.0 < n) (sym of.signals) at.1))
+      let here : IsTrue (has_both_at planes d.sig.0 chunk (d.cycle % 64)) = subst (λ n. IsTrue (has_both_at planes d.sig.0 n (d.cycle % 64))) same at.2 in
+      true≢false (sym ((each (d.cycle % 64)).1 (d.sig.0, subst (λ n. d.sig.0 < n) (sym of.signals) at.1, here)) ∙ ap (λ n. is_set n (d.cycle % 64)) zero ∙ is_set_zero (d.cycle % 64))
+
+  -- no cell of the chunk has both literals, nor any before it
+  pub none-more : (chunk : ℕ) → HasNoneBefore u planes chunk → ((d : Cell) → d.cycle / 64 ≡ chunk → HasBoth (lits u planes) d → ⊥) → HasNoneBefore u planes (chunk + 1)
+  none-more chunk before none d h known = elim (cases_lt (d.cycle / 64) chunk) [ inl below ↦ before d below known | inr last ↦ none d (omega (arith, last, h)) known ]
+
+  -- the least cell of the first chunk with one is the least of all
+  pub least-of-all : (chunk : ℕ) (c : Cell) → HasNoneBefore u planes chunk → IsLeastClash (lits_in_chunk u planes chunk) c → IsLeastClash (lits u planes) c
+  least-of-all chunk c before first = record { both = (first.both.0.0, first.both.1.0); least = least }
+    where
+      least : (d : Cell) → HasBoth (lits u planes) d → CellLe c d
+      least d known =
+          elim (cases_order (d.cycle / 64) chunk) [
+            | inl same ↦ first.least d ((known.0, same), (known.1, same))
+            | inr (inl below) ↦ absurd (before d below known)
+            | inr (inr above) ↦ inl (omega (arith, above, first.both.0.1))
+          ]
+
+  -- where no chunk has one there is none
+  pub no-clash : (chunk : ℕ) → chunks_in u ≤ chunk → HasNoneBefore u planes chunk → (d : Cell) → HasBoth (lits u planes) d → ⊥
+  no-clash chunk all before d known = let early : d.cycle / 64 < chunks_in u = cycle-chunk u d.cycle (both-there d known).0 in before d (omega (arith, early, all)) known

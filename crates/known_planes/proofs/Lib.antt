@@ -6,6 +6,7 @@ mod DumpWords
 mod DumpRows
 mod SignalCounts
 mod PlanesLaws
+mod WordLists
 mod Clashes
 mod NewBits
 mod CountLaws

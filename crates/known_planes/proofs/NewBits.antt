@@ -1,5 +1,5 @@
 -- Literals that are added to those of a block.
-use Rattle.std.proofs.Common.{ℕ, ◌≡◌, ◌<◌, ◌≤◌, ◌^◌, ◌&&◌, ◌||◌, Bool, true, false, not, length, arith, inl, inr, refl, sym, ap, subst, ◌∙◌}
+use Rattle.std.proofs.Common.{ℕ, ◌≡◌, ◌<◌, ◌≤◌, ◌^◌, ◌&&◌, ◌||◌, Bool, true, false, not, inl, inr, refl, sym, ap, subst, ◌∙◌}
 use Rattle.std.proofs.lemmas.Bool.{cases_eq, cases_lt, and_parts, and_right, or_cases, or_left, or_right, ltb-true, true≢false}
 use Rattle.std.specs.Prelude.{nat_lt}
 use Rattle.sr_model.specs.declared.cells.Lit.{Lit}
@@ -11,7 +11,7 @@ use Rattle.unroll.specs.Bits.{is_set, is_cycle, union_of, word_for}
 use Rattle.unroll.specs.Problem.{Unrolling, HasNoLaterBit, IsInside, bit_of, block_in, block_of, cell_of}
 use Rattle.unroll.proofs.lemmas.Laws.{block-chunk, block-within, cell-bit}
 use Rattle.unroll.proofs.lemmas.Words.{is_set_above, union_bits}
-use Rattle.known_planes.specs.Planes.{PlaneSet, IsNewIn, IsOf, Joins, has, has_bit, with_words, words_at}
+use Rattle.known_planes.specs.Planes.{PlaneSet, IsNewIn, IsOf, Joins, has_bit, is_new, with_words, words_at}
 use Rattle.known_planes.proofs.Clashes.{lowest-bit}
 use Rattle.known_planes.proofs.Members.{words-elsewhere, words-there}
 
@@ -49,6 +49,18 @@ module _ (u : Unrolling) (planes : PlaneSet) (of : IsOf u planes) (at : InChunk)
         above : (b : Bool) → 64 ≤ i → is_set (word_for b w) i ≡ false
         above true past = is_set_above w.one i one past
         above false past = is_set_above w.zero i zero past
+
+    pub new-exact : cycles < 2 ^ 64 → w.zero < 2 ^ 64 → w.one < 2 ^ 64 → (i : ℕ) → is_set cycles i ≡ is_new planes (block_in u at) w i
+    new-exact small zero one i =
+        elim (cases_lt i 64) [
+          | inl few ↦
+              cycles_is i ∙ ap (λ z. z || is_set new.one i) (bits false i few) ∙ ap (λ o. (is_set w.zero i && not (is_set here.zero i)) || o) (bits true i few)
+              ∙ ap (λ (x : PinWord). (is_set w.zero i && not (is_set x.zero i)) || (is_set w.one i && not (is_set x.one i))) here_is
+          | inr past ↦
+              is_set_above cycles i small past
+              ∙ sym (ap (λ z. (z && not (has_bit planes (block_in u at) false i)) || (is_set w.one i && not (has_bit planes (block_in u at) true i))) (is_set_above w.zero i zero past)
+              ∙ ap (λ o. o && not (has_bit planes (block_in u at) true i)) (is_set_above w.one i one past))
+        ]
 
     new-at : HasNoLaterBit u.cycles at.chunk w → (bit : Bool) (i : ℕ) → i < 64 → is_set (word_for bit new) i ≡ true → (l : Lit) × IsNewIn u planes (block_in u at) w l
     new-at no_later bit i few set =

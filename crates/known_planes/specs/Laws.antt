@@ -1,5 +1,5 @@
 -- The laws of planes, for every problem.
-use Rattle.std.specs.Prelude.{ℕ, ◌≡◌, ◌≢◌, ◌<◌, ◌≤◌, ◌*◌, Bool, IsTrue, IsFalse}
+use Rattle.std.specs.Prelude.{ℕ, ◌≡◌, ◌≢◌, ◌<◌, ◌≤◌, ◌*◌, Bool, List, IsTrue, IsFalse}
 use Rattle.std.specs.List.{sum_by}
 use Rattle.sr_model.specs.declared.cells.Lit.{Lit}
 use Rattle.sr_model.specs.Closure.{IsWithin, lit}
@@ -8,6 +8,7 @@ use Rattle.unroll.specs.declared.words.PinWord.{PinWord}
 use Rattle.unroll.specs.Bits.{is_set, word_for}
 use Rattle.unroll.specs.Problem.{Unrolling, IsProblem, signals_in, blocks_in, block_of, cell_of, bit_of}
 use Rattle.known_planes.specs.Planes.{PlaneSet, IsOf, has, lits, words_at, with_words}
+use Rattle.known_planes.specs.WordLists.{ListsWords}
 use Rattle.known_planes.specs.Counts.{bits_of_both, literal_count}
 
 -- the bits of a block's words are the literals of its cells
@@ -29,6 +30,11 @@ NewWordsAreLiterals =
 -- and all other cells have those that they had
 abbrev pub OtherLiteralsStay : Type 0
 OtherLiteralsStay = (u : Unrolling) (planes : PlaneSet) (b : Block) (w : PinWord) (l : Lit) → block_of u l.cell ≢ b → has u (with_words planes b w) l ≡ has u planes l
+
+-- planes are what a list has of their words: no others have the same ones
+abbrev pub ListsTellPlanes : Type 0
+ListsTellPlanes =
+    (u : Unrolling) (a b : PlaneSet) (list : List ℕ) → IsProblem u → IsOf u a → IsOf u b → ListsWords u a list → ListsWords u b list → a ≡ b
 
 -- there are as many literals as bits in the words of all blocks
 abbrev pub LiteralsByBlock : Type 0

@@ -1,5 +1,5 @@
 -- A set of literals in two words for each block.
-use Rattle.std.specs.Prelude.{ℕ, ◌≡◌, ◌<◌, ◌+◌, ◌*◌, ◌&&◌, ◌⊎◌, Bool, true, false, IsTrue, IsFalse, List, length, nat_lt, slice_index_or, slice_set}
+use Rattle.std.specs.Prelude.{ℕ, ◌≡◌, ◌<◌, ◌+◌, ◌*◌, ◌&&◌, ◌||◌, ◌⊎◌, Bool, true, false, not, IsTrue, IsFalse, List, length, nat_lt, slice_index_or, slice_set}
 use Rattle.sr_model.specs.declared.cells.Lit.{Lit}
 use Rattle.sr_model.specs.Closure.{passing}
 use Rattle.unroll.specs.declared.problem.Block.{Block}
@@ -58,6 +58,10 @@ pub record Joins (b : Block) (w : PinWord) (old new : PlaneSet) : Type 0 where
   pub kept : (a : Block) (bit : Bool) (i : ℕ) → has_bit old a bit i ≡ true → has_bit new a bit i ≡ true
   pub joined : (bit : Bool) (i : ℕ) → is_set (word_for bit w) i ≡ true → has_bit new b bit i ≡ true
   pub only : (a : Block) (bit : Bool) (i : ℕ) → has_bit new a bit i ≡ true → (has_bit old a bit i ≡ true) ⊎ ((a ≡ b) × (is_set (word_for bit w) i ≡ true))
+
+-- whether the words have, for some bit, the literal of bit i that the planes do not have in the block
+abbrev pub is_new : PlaneSet → Block → PinWord → ℕ → Bool
+is_new planes b w i = (is_set w.zero i && not (has_bit planes b false i)) || (is_set w.one i && not (has_bit planes b true i))
 
 -- a literal of the words of a block that the planes do not have
 pub record IsNewIn (u : Unrolling) (planes : PlaneSet) (b : Block) (w : PinWord) (l : Lit) : Type 0 where

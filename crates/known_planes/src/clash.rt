@@ -1,11 +1,11 @@
 //! Cells of which planes have both literals.
-ghost use Rattle.std.specs.Prelude.{ℕ, ◌≡◌, ◌<◌, ◌≤◌, ◌↔◌, ◌*◌, ◌+◌, IfSome, IsNone, IsTrue, false, true, slice_index_or};
+ghost use Rattle.std.specs.Prelude.{ℕ, ◌≡◌, ◌<◌, ◌≤◌, ◌↔◌, ◌*◌, ◌+◌, ◌/◌, IfSome, IsNone, IsTrue, false, true, slice_index_or};
 ghost use Rattle.sr_model.specs.declared.cells.Cell.{Cell as AnyCell};
 ghost use Rattle.sr_model.specs.Closure.{HasBoth, IsLeastClash};
 ghost use Rattle.unroll.specs.Bits.{is_set};
-ghost use Rattle.unroll.specs.Problem.{signals_in};
+ghost use Rattle.unroll.specs.Problem.{chunks_in, signals_in};
 ghost use Rattle.known_planes.specs.Planes.{IsOf, lits};
-ghost use Rattle.known_planes.specs.Clash.{has_both_at};
+ghost use Rattle.known_planes.specs.Clash.{has_both_at, lits_in_chunk};
 
 use crate::planes::Planes;
 use sr_model::{Cell, Sig};
@@ -20,17 +20,32 @@ impl Planes {
         ensures none { IsNone result → (c : AnyCell) → HasBoth (lits p.now self.now) c → ⊥ }
     {
         for chunk in 0..p.chunks() {
-            let both = self.both_in_chunk(chunk);
-            if both != 0 {
-                let i = both.trailing_zeros();
-                let sig = self.first_with_both(chunk, i)?;
-                return Some(Cell {
-                    cycle: 64 * chunk + i,
-                    sig,
-                });
+            if let Some(cell) = self.clash_in_chunk(p, chunk) {
+                return Some(cell);
             }
         }
         None
+    }
+
+    /// The least of the chunk's cells with both literals; None exactly where none of them has both.
+    pub fn clash_in_chunk(&self, p: &Problem, chunk: u32) -> Option<Cell>
+        requires of { IsOf p.now self.now }
+        requires chunk { chunk < chunks_in p.now }
+        ensures some { IfSome result (IsLeastClash (lits_in_chunk p.now self.now chunk)) }
+        ensures within { IfSome result (λ c. c.sig.0 < signals_in p.now) }
+        ensures none { IsNone result → (c : AnyCell) → c.cycle / 64 ≡ chunk → HasBoth (lits p.now self.now) c → ⊥ }
+    {
+        prove!(chunk < p.chunks());
+        let both = self.both_in_chunk(chunk);
+        if both == 0 {
+            return None;
+        }
+        let i = both.trailing_zeros();
+        let sig = self.first_with_both(chunk, i)?;
+        Some(Cell {
+            cycle: 64 * chunk + i,
+            sig,
+        })
     }
 
     /// Bit i is set exactly where some signal has it in both words of the chunk.

@@ -41,17 +41,17 @@ pub trait Closer {
         ensures closure { IfOk result (λ planes. SameLits (lits p.now planes) (Closure (unrolled p.now) (passing (λ l. has p.now closed.now l || has p.now added.now l)))) };
 
     /// The planes with the closure of the base, or with the base and so much of its closure that a cell has both literals: it need not go on behind the first such cell
-    /// that it meets.
+    /// that it meets. It takes the base, so that its planes can be closed in place.
     fn close_until_clash<R: Threads + Sync>(
         &mut self,
         rt: &R,
         alloc: Global,
         p: &Problem,
-        base: &Planes,
+        base: Planes,
     ) -> Result<Planes, NoMemory>
-        requires { IsOf p.now base.now }
+        requires { IsOf p.now base }
         ensures of { IfOk result (IsOf p.now) }
-        ensures above { IfOk result (λ planes. IsWithin (lits p.now base.now) (lits p.now planes)) }
-        ensures within { IfOk result (λ planes. IsWithin (lits p.now planes) (Closure (unrolled p.now) (lits p.now base.now))) }
-        ensures closure { IfOk result (λ planes. ((c : AnyCell) → HasBoth (lits p.now planes) c → ⊥) → SameLits (lits p.now planes) (Closure (unrolled p.now) (lits p.now base.now))) };
+        ensures above { IfOk result (λ planes. IsWithin (lits p.now base) (lits p.now planes)) }
+        ensures within { IfOk result (λ planes. IsWithin (lits p.now planes) (Closure (unrolled p.now) (lits p.now base))) }
+        ensures closure { IfOk result (λ planes. ((c : AnyCell) → HasBoth (lits p.now planes) c → ⊥) → SameLits (lits p.now planes) (Closure (unrolled p.now) (lits p.now base))) };
 }

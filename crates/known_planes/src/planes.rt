@@ -4,10 +4,11 @@ ghost use Rattle.sr_model.specs.declared.cells.Lit.{Lit};
 ghost use Rattle.sr_model.specs.Closure.{lit};
 ghost use Rattle.sr_model.specs.Limits.{chunk_count, max_cycles, max_signals};
 ghost use Rattle.unroll.specs.Bits.{is_set, word_for, union_of};
-ghost use Rattle.unroll.specs.Problem.{signals_in, blocks_in, block_in, chunk_at, HasNoLaterBit, IsInside};
-ghost use Rattle.known_planes.specs.Planes.{has, has_bit, pair_in, words_at, with_words, IsOf, IsNewIn, Joins, seen_of};
-ghost use Rattle.known_planes.specs.Layout.{place_of};
+ghost use Rattle.unroll.specs.Problem.{Unrolling, signals_in, blocks_in, block_in, chunk_at, HasNoLaterBit, IsInside};
+ghost use Rattle.known_planes.specs.Planes.{has, has_bit, is_new, pair_in, words_at, with_words, IsOf, IsNewIn, Joins, seen_of};
+ghost use Rattle.known_planes.specs.WordLists.{IsWordList, ListsWords};
 
+use crate::layout::place_among;
 use sr_model::{Cell, NoMemory, Sig};
 use std::alloc::Global;
 use std::marker::Model;
@@ -24,8 +25,7 @@ pub enum Seen {
 
 /// A set of literals of a problem, seen by contracts as the zero word and the one word of each block.
 ///
-/// It takes 16 bytes for each block and 8 more, in one piece. The words of a block lie side by side, those of a chunk's signals one behind the other, and
-/// chunk after chunk: rules join signals of one chunk. At the end is one more word, which stays 0.
+/// It takes 16 bytes for each block and 8 more, in one piece. The words of a block lie side by side where `place` says. At the end is one more word, which stays 0.
 #[derive(Drop)]
 pub struct Planes {
     words: Vec<u64>,
@@ -72,6 +72,27 @@ impl Planes {
         })
     }
 
+    /// All words, each at its `place`, and behind them the further one that stays 0.
+    pub fn words(&self) -> &[u64]
+        ensures list { (u : Unrolling) → IsOf u self.now → IsWordList u result.now }
+        ensures words { (u : Unrolling) → IsOf u self.now → ListsWords u self.now result.now }
+    {
+        self.words.as_slice()
+    }
+
+    /// The planes with these words, in the order of `words`. It keeps the vector with its room, and takes no memory.
+    pub fn of_words(p: &Problem, words: Vec<u64>) -> Planes
+        requires { IsWordList p.now words.items }
+        ensures of { IsOf p.now result }
+        ensures words { ListsWords p.now result words.items }
+    {
+        Planes {
+            words,
+            signals: p.net().signals(),
+            chunks: p.chunks(),
+        }
+    }
+
     /// The words of a block. `word_in_chunk` does it with no division.
     pub fn word(&self, b: Block) -> PinWord
         requires { b.0 < length self.now.words }
@@ -111,11 +132,12 @@ impl Planes {
         self.set_pair(at.sig, at.chunk, w);
     }
 
-    /// The cycles of a chunk in which the words have a literal of the signal that the planes do not have.
+    /// The cycles of a chunk in which the words have a literal of the signal that the planes do not have: bit i stands for cycle `64 * chunk + i`.
     pub fn new_in_chunk(&self, p: &Problem, at: InChunk, words: PinWord) -> u64
         requires of { IsOf p.now self.now }
         requires inside { IsInside p.now at }
         requires no_later { HasNoLaterBit p.now.cycles at.chunk words }
+        ensures exact { (i : ℕ) → is_set result i ≡ is_new self.now (block_in p.now at) words i }
         ensures known { (bit : Bool) (i : ℕ) → is_set result i ≡ false → is_set (word_for bit words) i ≡ true → has_bit self.now (block_in p.now at) bit i ≡ true }
         ensures new { result ≢ 0 → (l : Lit) × IsNewIn p.now self.now (block_in p.now at) words l }
     {
@@ -176,7 +198,7 @@ impl Planes {
         requires chunk { chunk < self.now.chunks }
         ensures { result ≡ pair_in self.now s.0 chunk }
     {
-        let place = place(self.signals, s, chunk);
+        let place = place_among(self.signals, s, chunk);
         PinWord {
             zero: self.words[place],
             one: self.words[place + 1],
@@ -189,7 +211,7 @@ impl Planes {
         requires chunk { chunk < self.old.chunks }
         ensures { self.new ≡ record { signals = self.old.signals; chunks = self.old.chunks; words = slice_set self.old.words (s.0 * self.old.chunks + chunk) w } }
     {
-        let place = place(self.signals, s, chunk);
+        let place = place_among(self.signals, s, chunk);
         self.words[place] = w.zero;
         self.words[place + 1] = w.one;
     }
@@ -203,14 +225,4 @@ fn zeros(alloc: Global, count: usize) -> Result<Vec<u64>, NoMemory>
         Ok(words) => Ok(words),
         Err(_) => Err(NoMemory),
     }
-}
-
-/// Where the words of a signal in a chunk lie: the zero word is here, and the one word behind it.
-fn place(signals: u32, s: Sig, chunk: u32) -> usize
-    requires signals { signals ≤ max_signals }
-    requires signal { s.0 < signals }
-    requires chunk { chunk < chunk_count max_cycles }
-    ensures { result ≡ place_of signals s.0 chunk }
-{
-    2 * (chunk as usize * signals as usize + s.0 as usize)
 }

@@ -3,7 +3,7 @@ ghost use Rattle.std.specs.Prelude.{◌≡◌, ◌<◌, length, IfOk};
 ghost use Rattle.unroll.specs.Problem.{signals_in, chunks_in, HasNoLaterBit};
 ghost use Rattle.known_planes.specs.Planes.{IsOf};
 
-use crate::{Closer, Planes, Seen, seed};
+use crate::{Closer, Planes, Seen, place, seed};
 use dump_reader::{Dump, Tri};
 use netlist::{Netlist, are_statements, build};
 use sr_model::{Bytes, Cell, Kind, Names, NoMemory, Numbered, Sig, Statement, Statements};
@@ -77,7 +77,7 @@ impl Closer for Refusing {
         _rt: &R,
         _alloc: Global,
         _p: &Problem,
-        _base: &Planes,
+        _base: Planes,
     ) -> Result<Planes, NoMemory> {
         Err(NoMemory)
     }
@@ -156,6 +156,34 @@ fn has_counts(rt: &impl Abort, p: &Problem, planes: &Planes, literals: u64, know
     assert_eq!(rt; planes.count_known_flip_flops(p), known);
 }
 
+/// The words behind `add_both`: of the signals 0, 1 and 2 in chunk 0, then in chunk 1, and the further word.
+fn lists_words(rt: &impl Abort, p: &Problem, planes: &Planes)
+    requires of { IsOf p.now planes.now }
+    requires cycles { p.now.cycles ≡ 70 }
+    requires signals { signals_in p.now ≡ 3 }
+{
+    let words = [0, 1 << 63, 0, 0, 0, 0, 3, 2, 0, 0, 1, 1, 0];
+    assert!(rt; planes.words() == words.as_slice());
+    for (sig, chunk) in [(0, 0), (0, 1), (2, 0), (2, 1)] {
+        assert!(rt; sig < p.net().signals() && chunk < p.chunks());
+        let sig = Sig(sig);
+        let at = InChunk { sig, chunk };
+        let place = place(p, at);
+        let PinWord { zero, one } = planes.word_in_chunk(p, at);
+        assert_eq!(rt; words[place], zero);
+        assert_eq!(rt; words[place + 1], one);
+    }
+}
+
+/// Planes of the same words.
+fn planes_again(alloc: Global, p: &Problem, planes: &Planes) -> Result<Planes, Fail>
+    requires { IsOf p.now planes.now }
+    ensures { IfOk result (IsOf p.now) }
+{
+    let words = Vec::from_slice(alloc, planes.words())?;
+    Ok(Planes::of_words(p, words))
+}
+
 fn gives_none(rt: &(impl Abort + Threads + Sync), alloc: Global, p: &Problem, base: &Planes)
     requires { IsOf p.now base.now }
 {
@@ -174,6 +202,10 @@ fn compare(rt: &(impl Abort + Threads + Sync), alloc: Global, p: &Problem) -> Re
     has_clash(rt, p, &planes, Some(Cell { cycle: 64, sig }));
     has_counts(rt, p, &seeded, 2, 2);
     has_counts(rt, p, &planes, 6, 3);
+    lists_words(rt, p, &planes);
+    let again = planes_again(alloc, p, &planes)?;
+    all_seen(rt, p, &again)?;
+    has_counts(rt, p, &again, 6, 3);
     gives_none(rt, alloc, p, &planes);
     Ok(())
 }

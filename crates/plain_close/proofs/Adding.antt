@@ -1,25 +1,21 @@
 -- Planes with the literals of others, and what is done there before any turn.
-use Rattle.std.proofs.Common.{ℕ, ◌≡◌, ◌<◌, ◌≤◌, ◌+◌, ◌/◌, ◌||◌, Bool, true, false, length, arith, inl, inr, sym, ap, subst, ◌∙◌}
-use Rattle.std.proofs.lemmas.Bool.{cases_lt, and_parts, or_cases, or_left, or_right, true≢false}
+use Rattle.std.proofs.Common.{ℕ, ◌≡◌, ◌<◌, ◌≤◌, ◌+◌, ◌/◌, ◌||◌, Bool, true, arith, inl, inr, sym, ap, subst, ◌∙◌}
+use Rattle.std.proofs.lemmas.Bool.{cases_lt, or_cases, or_left, or_right}
 use Rattle.sr_model.specs.declared.cells.Sig.{Sig}
-use Rattle.sr_model.specs.declared.cells.Lit.{Lit}
-use Rattle.sr_model.specs.Closure.{Closure, SameLits, lit, passing, LitSet}
+use Rattle.sr_model.specs.Closure.{Closure, SameLits, passing, LitSet}
 use Rattle.sr_model.proofs.lemmas.Laws.{monotone, has_base, forced_between, closed_between}
 use Rattle.unroll.specs.declared.problem.Block.{Block}
 use Rattle.unroll.specs.declared.problem.InChunk.{InChunk}
 use Rattle.unroll.specs.declared.words.PinWord.{PinWord}
 use Rattle.unroll.specs.Bits.{is_set, word_for}
-use Rattle.unroll.specs.Problem.{Unrolling, unrolled, IsInside, IsProblem, signals_in, chunks_in, block_at, block_in, block_of, bit_of, HasNoLaterBit}
-use Rattle.unroll.specs.Tasks.{constant_tasks}
-use Rattle.unroll.specs.Laws.{ForcesFromNothing}
-use Rattle.unroll.proofs.lemmas.Laws.{cycle-chunk, block-chunk, block-within, force_from_nothing}
-use Rattle.gate_rules.specs.Forced.{ForcedIn}
+use Rattle.unroll.specs.Problem.{Unrolling, unrolled, IsInside, signals_in, chunks_in, block_at, block_in, block_of, bit_of, HasNoLaterBit}
+use Rattle.unroll.proofs.lemmas.Laws.{cycle-chunk, block-chunk, block-within}
 use Rattle.known_planes.specs.Planes.{PlaneSet, has, lits, words_at, IsOf, Joins, has_bit}
 use Rattle.known_planes.proofs.lemmas.Laws.{literals_are_of_cells}
-use Rattle.plain_close.specs.Queues.{Waiting, Waits}
-use Rattle.plain_close.specs.Turns.{AreTasksOf, IsSettled, Pushed, Wakes, Adds, AddsChunk}
+use Rattle.plain_close.specs.declared.worklist.Worklist.{Worklist}
+use Rattle.plain_close.specs.Worklist.{IsSettled}
+use Rattle.plain_close.specs.Turns.{Wakes, Adds, AddsChunk}
 use Rattle.gate_rules.proofs.lemmas.Laws.{forced_by_cells}
-use Rattle.plain_close.proofs.Waking.{member-cases}
 use Rattle.plain_close.proofs.Turning.{has-bit_of, bit-has, has-kept}
 
 -- one signal more
@@ -60,7 +56,7 @@ adds-more u other n x y z before bits step = record {
 }
 
 -- the literals of both
-pub added-lits : (u : Unrolling) (x other z : PlaneSet) (before after : Waiting) → IsOf u other → Wakes u x z before after → Adds u other (chunks_in u) x z
+pub added-lits : (u : Unrolling) (x other z : PlaneSet) (before after : Worklist) → IsOf u other → Wakes u x z before after → Adds u other (chunks_in u) x z
     → SameLits (lits u z) (passing (λ l. has u x l || has u other l))
 added-lits u x other z before after of wakes adds = (
   λ l h.
@@ -82,7 +78,7 @@ pub same-closed : (u : Unrolling) (result : PlaneSet) (a b : LitSet) → SameLit
 same-closed u result a b same closed = (λ l h. monotone (unrolled u) a b same.0 l (closed.0 l h), λ l h. closed.1 l (monotone (unrolled u) b a same.1 l h))
 
 -- after literals were added, each task waits or is done, if that was so before
-pub still-settled : (u : Unrolling) (x z : PlaneSet) (before after : Waiting) → IsSettled u x before → Wakes u x z before after → IsSettled u z after
+pub still-settled : (u : Unrolling) (x z : PlaneSet) (before after : Worklist) → IsSettled u x before → Wakes u x z before after → IsSettled u z after
 still-settled u x z before after settled wakes t is =
     elim (wakes.woken t) [
       | inl waits ↦ inl waits
@@ -92,43 +88,15 @@ still-settled u x z before after settled wakes t is =
       ]
     ]
 
--- where nothing is known, all but the constant tasks are done
-pub settled-empty : (u : Unrolling) → IsProblem u → (planes : PlaneSet) (before after : Waiting) → ((l : Lit) → has u planes l ≡ false) → Pushed u (constant_tasks u) before after → IsSettled u planes after
-settled-empty u is planes before after none p t task =
-    elim (member-cases (constant_tasks u) t) [
-      | inl listed ↦ inl (p.pushed t listed)
-      | inr other ↦ inr (λ l f. absurd (other (((force_from_nothing u is).1 t).1 (task, from_nothing l f))))
-    ]
-  where
-    from_nothing : (l : Lit) → ForcedIn u t (has u planes) l → ForcesFromNothing u t
-    from_nothing l f =
-        let g : ForcedIn u t (λ _. false) l = forced_by_cells u t (has u planes) (λ _. false) (λ c bit of h. absurd (true≢false (sym h ∙ none (lit c bit)))) l f in
-        record { place = g.place; belongs = g.belongs; l = l; forces = g.forces }
-
 -- where the planes are closed, all tasks are done
-pub settled-closed : (u : Unrolling) (planes : PlaneSet) (q : Waiting) → SameLits (lits u planes) (Closure (unrolled u) (lits u planes)) → IsSettled u planes q
+pub settled-closed : (u : Unrolling) (planes : PlaneSet) (q : Worklist) → SameLits (lits u planes) (Closure (unrolled u) (lits u planes)) → IsSettled u planes q
 settled-closed u planes q closed t task = inr (λ l f. closed.1 l (forced_between (unrolled u) (lits u planes) (lits u planes) (λ m h. h) closed.0 l (f.place, f.forces)))
-
--- the queues that are new
-pub no-tasks : (u : Unrolling) (q : Waiting) → q.signals ≡ signals_in u → length q.rows ≡ chunks_in u → ((s : Sig) (c : ℕ) → Waits q s c → ⊥) → AreTasksOf u q
-no-tasks u q signals chunks none = record { signals = signals; chunks = chunks; tasks = λ s c h. absurd (none s c h) }
 
 -- the words of planes have no bit of a later cycle
 pub no_later-in : (u : Unrolling) (other : PlaneSet) (at : InChunk) (w : PinWord) → IsOf u other → IsInside u at → w ≡ words_at other (block_in u at) → HasNoLaterBit u.cycles at.chunk w
 no_later-in u other at w of inside is =
     subst (HasNoLaterBit u.cycles at.chunk) (sym is)
     (subst (λ c. HasNoLaterBit u.cycles c (words_at other (block_in u at))) (block-chunk u at.sig at.chunk inside.1) (of.no_later (block_in u at) (block-within u at.sig at.chunk inside.1 inside.0)))
-
--- the literals of planes that had none
-pub added-to_none : (u : Unrolling) (x other z : PlaneSet) (before after : Waiting) → ((l : Lit) → has u x l ≡ false) → IsOf u other → Wakes u x z before after → Adds u other (chunks_in u) x z
-    → SameLits (lits u z) (lits u other)
-added-to_none u x other z before after none of wakes adds = (
-  λ l h. elim (or_cases (has u x l) (has u other l) ((added-lits u x other z before after of wakes adds).0 l h)) [
-    | inl old ↦ absurd (true≢false (sym old ∙ none l))
-    | inr new ↦ new
-  ],
-  λ l h. (added-lits u x other z before after of wakes adds).1 l (or_right (has u x l) (has u other l) h),
-)
 
 -- a closure is closed
 pub closed_again : (u : Unrolling) (planes base : PlaneSet) → SameLits (lits u planes) (Closure (unrolled u) (lits u base)) → SameLits (lits u planes) (Closure (unrolled u) (lits u planes))

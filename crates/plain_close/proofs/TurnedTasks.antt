@@ -1,43 +1,55 @@
 -- A task after its turn.
-use Rattle.std.proofs.Common.{◌≡◌, Bool, true, false, List, map, inl, inr, refl, ap, subst, ◌∙◌}
-use Rattle.sr_model.specs.declared.cells.Sig.{Sig}
-use Rattle.sr_model.specs.declared.cells.Lit.{Lit}
-use Rattle.sr_model.specs.Closure.{lit}
-use Rattle.unroll.specs.declared.problem.Task.{Task}
-use Rattle.unroll.specs.Problem.{Unrolling, IsProblem, block_of, bit_of, block_in}
-use Rattle.unroll.specs.Tasks.{drives_itself, target_of, blocks_of}
-use Rattle.unroll.proofs.lemmas.Laws.{have_its_cells}
+use Rattle.std.proofs.Common.{◌≡◌, ◌<◌, true, false, List, length, map, inl, inr, ap, subst, ◌∙◌}
+use Rattle.std.proofs.lemmas.Bool.{cases_Bool}
+use Rattle.sr_model.specs.declared.cells.Cell.{Cell}
+use Rattle.sr_model.specs.Closure.{HasBoth, lit}
+use Rattle.unroll.specs.declared.problem.InChunk.{InChunk}
+use Rattle.unroll.specs.declared.words.PinWord.{PinWord}
+use Rattle.unroll.specs.Problem.{Unrolling, block_of, bit_of, block_in, chunks_in}
+use Rattle.unroll.specs.Tasks.{drives_itself, task_in}
+use Rattle.unroll.proofs.lemmas.Laws.{block-sig}
 use Rattle.gate_rules.specs.Forced.{ForcedIn, IsDone}
 use Rattle.gate_rules.proofs.lemmas.Laws.{done_once}
-use Rattle.known_planes.specs.Planes.{PlaneSet, has}
-use Rattle.plain_close.specs.Queues.{Waiting}
-use Rattle.plain_close.specs.Turns.{Turns, Falls, HaveNoClash}
-use Rattle.plain_close.proofs.Turning.{has-bit_of}
-use Rattle.unroll.specs.declared.problem.InChunk.{InChunk}
+use Rattle.known_planes.specs.Planes.{PlaneSet, has, lits}
+use Rattle.plain_close.specs.declared.turns.Turned.{Turned}
+use Rattle.plain_close.specs.declared.worklist.Worklist.{Worklist}
+use Rattle.plain_close.specs.Turns.{AreForced, JoinsFirst, Turns, Wakes, Falls, IsTurn, HaveNoClash}
+use Rattle.plain_close.proofs.Turning.{forced-added, has-bit_of, has-kept}
 
-module _ (u : Unrolling) (is : IsProblem u) (t : Task) (old new : PlaneSet) (turn : Turns u t old new) (bits : (l : Lit) → has u old l ≡ true → has u new l ≡ true) where
+module _ (u : Unrolling) (task : InChunk) (early : task.chunk < chunks_in u) (old new : PlaneSet) (in_chunks : List InChunk) (out : List PinWord) (are : AreForced u old task in_chunks out)
+    (joins : JoinsFirst (map (block_in u) in_chunks) out (length in_chunks) old new) (before after : Worklist) (wakes : Wakes u old new before after) where
+  turns : Turns u (task_in u task) old new
+  turns = forced-added u task old old new in_chunks out are joins
+
   -- where nothing was added
-  pub done-same : new ≡ old → IsDone u t (has u new)
-  done-same same l f = turn.done l (subst (λ (x : PlaneSet). ForcedIn u t (has u x) l) same f)
+  done-same : new ≡ old → IsDone u (task_in u task) (has u new)
+  done-same same l f = turns.done l (subst (λ (x : PlaneSet). ForcedIn u (task_in u task) (has u x) l) same f)
 
   -- where no cell has both literals, and the target is not its own pin behind a flip-flop
-  pub done-without_clash : drives_itself u (target_of u t) ≡ false → HaveNoClash new (blocks_of u t) → IsDone u t (has u new)
+  done-without_clash : drives_itself u task.sig ≡ false → HaveNoClash new (map (block_in u) in_chunks) → IsDone u (task_in u task) (has u new)
   done-without_clash other none =
-      done_once u t (has u old) (has u new) other
+      done_once u (task_in u task) (has u old) (has u new) (ap (drives_itself u) (block-sig u task.sig task.chunk early) ∙ other)
       (λ l of. (
-        turn.only l,
+        turns.only l,
         λ h. elim h [
-          | inl known ↦ bits l known
-          | inr f ↦ turn.done l f
+          | inl known ↦ has-kept u old new wakes.bits l known
+          | inr f ↦ turns.done l f
         ],
       ))
-      (λ c of both.
-      none (block_of u c) (bit_of c) (have_its_cells u t c is of)
-      (has-bit_of u new (lit c false) both.0).1 (has-bit_of u new (lit c true) both.1).1)
+      (λ c of both. none (block_of u c) (bit_of c) (are.has_cells c of) (has-bit_of u new (lit c false) both.0).1 (has-bit_of u new (lit c true) both.1).1)
 
   -- so after a turn that need not be followed by another one
-  pub done-after : (s : Sig) (in_chunks : List InChunk) (added again : Bool) (before after : Waiting) → target_of u t ≡ s → map (block_in u) in_chunks ≡ blocks_of u t → Falls u added old new before after
-      → (again ≡ false → added ≡ true → drives_itself u s ≡ false) → (again ≡ false → added ≡ true → HaveNoClash new (map (block_in u) in_chunks)) → again ≡ false → IsDone u t (has u new)
-  done-after s in_chunks true again before after target blocks falls other none no_more =
-      done-without_clash (ap (drives_itself u) target ∙ other no_more refl) (subst (HaveNoClash new) blocks (none no_more refl))
-  done-after s in_chunks false again before after target blocks falls other none no_more = done-same (falls.same refl).0
+  pub turn-is : (turned : Turned) → Falls u turned.added old new before after
+      → (turned.again ≡ false → turned.added ≡ true → (drives_itself u task.sig ≡ false) × HaveNoClash new (map (block_in u) in_chunks)) → (turned.added ≡ false → turned.again ≡ false)
+      → (turned.clash ≡ true → (c : Cell) × HasBoth (lits u new) c) → IsTurn u task turned old new before after
+  turn-is turned falls other nothing clash = record {
+    wakes = wakes;
+    falls = falls;
+    turns = turns;
+    done = λ no_more. elim (cases_Bool turned.added) [
+      | inl added ↦ done-without_clash (other no_more added).0 (other no_more added).1
+      | inr none ↦ done-same (falls.same none).0
+    ];
+    nothing = nothing;
+    clash = clash;
+  }

@@ -1,5 +1,5 @@
 -- The turn of a task, and turns one after another.
-use Rattle.std.proofs.Common.{ℕ, ◌≡◌, ◌<◌, ◌≤◌, ◌⊎◌, ◌&&◌, Bool, true, false, ltb, List, length, map, get_or, arith, inl, inr, refl, sym, ap, subst, ◌∙◌}
+use Rattle.std.proofs.Common.{ℕ, ◌≡◌, ◌<◌, ◌≤◌, ◌⊎◌, Bool, true, false, ltb, List, length, map, get_or, arith, inl, inr, refl, sym, ap, subst, ◌∙◌}
 use Rattle.std.specs.List.{Contains}
 use Rattle.std.proofs.lemmas.Bool.{and_parts, and_from, lt-ltb, ltb-true}
 use Rattle.std.proofs.lemmas.List.{get_or-map, get_or_default, length-map}
@@ -9,7 +9,6 @@ use Rattle.sr_model.specs.declared.cells.Cell.{Cell}
 use Rattle.sr_model.specs.declared.cells.Lit.{Lit}
 use Rattle.sr_model.specs.Closure.{Closure, SameLits, IsClosed, lit}
 use Rattle.sr_model.proofs.lemmas.Laws.{forced_between, closed_between, same_closure, has_base}
-use Rattle.sr_model.proofs.lemmas.Members.{Contains-here}
 use Rattle.netlist.specs.Wiring.{driver_at, is_driven}
 use Rattle.unroll.specs.declared.problem.Block.{Block}
 use Rattle.unroll.specs.declared.problem.InChunk.{InChunk}
@@ -18,16 +17,18 @@ use Rattle.unroll.specs.declared.words.PinWord.{PinWord}
 use Rattle.unroll.specs.Bits.{is_set, no_words, word_for}
 use Rattle.unroll.specs.Problem.{Unrolling, HaveNoLaterBit, IsInside, IsProblem, unrolled, chunks_in, blocks_in, block_in, block_of, bit_of, cell_of}
 use Rattle.unroll.specs.Tasks.{IsTask, IsTaskAt, IsCellOf, task_at, task_in, target_of, chunk_of, blocks_of, blocks_from}
-use Rattle.unroll.proofs.lemmas.Laws.{block-sig, block-within, task-itself, cell-itself, bit-small, blocks-at, have_its_cells}
+use Rattle.unroll.proofs.lemmas.Laws.{block-sig, block-chunk, block-within, task-itself, cell-itself, bit-small, blocks-at, have_its_cells}
 use Rattle.gate_rules.specs.Forced.{AreForcedBy, ForcedIn, IsDone, IsForcedExactly, IsViewOf, bit_at_place, lit_at_place}
 use Rattle.gate_rules.proofs.lemmas.Laws.{closed_where_done, forced_by_cells, forced_by_view, forced_on_cells}
 use Rattle.known_planes.specs.Planes.{PlaneSet, IsOf, has, has_bit, lits, words_at}
 use Rattle.known_planes.proofs.lemmas.Laws.{bits_are_literals}
-use Rattle.plain_close.specs.Queues.{Waiting, Waits, IsFirst}
-use Rattle.plain_close.specs.Turns.{AreTasksOf, TaskWaits, IsSettled, Wakes, JoinsFirst, AddsForced, AreForced, Sees, Turns, Between, missing_of}
+use Rattle.unroll.specs.Waiting.{Waits}
+use Rattle.plain_close.specs.declared.worklist.Worklist.{Worklist}
+use Rattle.plain_close.specs.Worklist.{IsWorklistOf, HasNone, IsSettled, TaskWaits}
+use Rattle.plain_close.specs.Turns.{Wakes, JoinsFirst, AddsForced, AreForced, Sees, Turns, Between, missing_of}
 
 -- a gate or flip-flop in a chunk is a task
-task-within : (u : Unrolling) (at : InChunk) → IsTaskAt u at → IsTask u (task_in u at)
+pub task-within : (u : Unrolling) (at : InChunk) → IsTaskAt u at → IsTask u (task_in u at)
 task-within u at is = (block-within u at.sig at.chunk is.early is.signal, ap (λ (s : Sig). is_driven (driver_at u.circuit.drivers s.0)) (block-sig u at.sig at.chunk is.early) ∙ is.driven)
 
 -- bits of which each one has what the other has are the same
@@ -53,8 +54,8 @@ has-kept u old new bits l h =
     let parts : (l.cell.cycle < u.cycles) × (has_bit old (block_of u l.cell) l.bit (bit_of l.cell) ≡ true) = has-bit_of u old l h in
     bit-has u new l parts.0 (bits (block_of u l.cell) l.bit (bit_of l.cell) parts.1)
 
-module _ (u : Unrolling) (is : IsProblem u) (t : Task) (seen old new : PlaneSet) (blocks : List Block) (out : List PinWord)
-    (blocks_are : blocks ≡ blocks_of u t) (exact : AreForcedBy u t blocks (has u seen) out) (joins : JoinsFirst blocks out (length blocks) old new) where
+module _ (u : Unrolling) (t : Task) (seen old new : PlaneSet) (blocks : List Block) (out : List PinWord)
+    (has_cells : (c : Cell) → IsCellOf u t c → Contains blocks (block_of u c)) (exact : AreForcedBy u t blocks (has u seen) out) (joins : JoinsFirst blocks out (length blocks) old new) where
   -- the literal of an index
   at-index : (l : Lit) (index : ℕ) → l.cell.cycle < u.cycles → get_or blocks index (record { 0 = 0 }) ≡ block_of u l.cell → lit_at_place u blocks index l.bit (bit_of l.cell) ≡ l
   at-index l index early e = ap (λ b. lit (cell_of u b (bit_of l.cell)) l.bit) e ∙ ap (λ c. lit c l.bit) (cell-itself u l.cell early)
@@ -63,7 +64,7 @@ module _ (u : Unrolling) (is : IsProblem u) (t : Task) (seen old new : PlaneSet)
   adds-forced = record {
     done = λ l f.
         let on_cells : IsCellOf u t l.cell × (l.cell.cycle < u.cycles) = forced_on_cells u t (has u seen) l f in
-        let there : Contains blocks (block_of u l.cell) = subst (λ bs. Contains bs (block_of u l.cell)) (sym blocks_are) (have_its_cells u t l.cell is on_cells.0) in
+        let there : Contains blocks (block_of u l.cell) = has_cells l.cell on_cells.0 in
         let at : get_or blocks there.0 (record { 0 = 0 }) ≡ block_of u l.cell = get_or_default blocks there.0 (record { 0 = 0 }) (block_of u l.cell) there.1 ∙ there.2 in
         let set : bit_at_place out there.0 l.bit (bit_of l.cell) ≡ true =
         (exact there.0 (bit_of l.cell) l.bit there.1 (bit-small l.cell)).1 (subst (ForcedIn u t (has u seen)) (sym (at-index l there.0 on_cells.1 at)) f) in
@@ -101,7 +102,7 @@ module _ (u : Unrolling) (planes : PlaneSet) (task : InChunk) (in_chunks : List 
   forced-seen blocks same size exact later = record {
     problem = is;
     inside = sees.inside;
-    blocks_are = sees.blocks_are;
+    has_cells = λ c of. subst (λ bs. Contains bs (block_of u c)) (blocks-at u task.sig task.chunk is_task.early ∙ sym sees.blocks_are) (have_its_cells u (task_in u task) c is of);
     out_size = size ∙ ap length (same ∙ sym sees.blocks_are) ∙ length-map in_chunks (block_in u);
     exact = by-view (map (block_in u) in_chunks) (sees.blocks_are ∙ sym (blocks-at u task.sig task.chunk is_task.early))
         (ap length (sees.view_is ∙ ap (map (words_at planes)) (sym sees.blocks_are)) ∙ length-map (map (block_in u) in_chunks) (words_at planes)) viewed
@@ -109,19 +110,24 @@ module _ (u : Unrolling) (planes : PlaneSet) (task : InChunk) (in_chunks : List 
     later = subst (λ bs. HaveNoLaterBit u bs out) (same ∙ sym sees.blocks_are) later;
   }
 
--- the first that waits is a task
-pub first-task : (u : Unrolling) (q : Waiting) (s : Sig) (chunk : ℕ) → AreTasksOf u q → IsFirst q s chunk → IsTaskAt u (record { sig = s; chunk = chunk })
-first-task u q s chunk are first = are.tasks s chunk (subst (λ r. Contains r s) (sym first.first) (Contains-here s first.others))
+-- a task that waits waits on where all others do
+pub still-waits : (u : Unrolling) (q r : Worklist) (at : InChunk) → at.chunk < chunks_in u → ((t : Task) → TaskWaits u q t → TaskWaits u r t) → Waits q.waiting at.sig at.chunk → Waits r.waiting at.sig at.chunk
+still-waits u q r at early kept h =
+    subst (λ s. Waits r.waiting s at.chunk) (block-sig u at.sig at.chunk early)
+    (subst (λ c. Waits r.waiting (target_of u (task_in u at)) c) (block-chunk u at.sig at.chunk early)
+    (kept (task_in u at)
+    (subst (λ s. Waits q.waiting s (chunk_of u (task_in u at))) (sym (block-sig u at.sig at.chunk early)) (subst (λ c. Waits q.waiting at.sig c) (sym (block-chunk u at.sig at.chunk early)) h))))
 
 -- the tasks that are left after one was taken
-pub same-tasks : (u : Unrolling) (q popped : Waiting) → AreTasksOf u q → popped.signals ≡ q.signals → length popped.rows ≡ length q.rows → ((s : Sig) (c : ℕ) → Waits popped s c → Waits q s c) → AreTasksOf u popped
-same-tasks u q popped are signals chunks only = record { signals = signals ∙ are.signals; chunks = chunks ∙ are.chunks; tasks = λ s c h. are.tasks s c (only s c h) }
+pub same-tasks : (u : Unrolling) (q left : Worklist) → IsWorklistOf u q → left.records ≡ q.records → left.waiting.signals ≡ q.waiting.signals → left.waiting.chunks ≡ q.waiting.chunks
+    → ((s : Sig) (c : ℕ) → Waits left.waiting s c → Waits q.waiting s c) → IsWorklistOf u left
+same-tasks u q left are records signals chunks only = record { records = records ∙ are.records; signals = signals ∙ are.signals; chunks = chunks ∙ are.chunks; tasks = λ s c h. are.tasks s c (only s c h) }
 
 -- nothing was done yet
-pub between-none : (u : Unrolling) (planes : PlaneSet) (q : Waiting) → IsOf u planes → AreTasksOf u q → IsSettled u planes q → Between u planes planes q
+pub between-none : (u : Unrolling) (planes : PlaneSet) (q : Worklist) → IsOf u planes → IsWorklistOf u q → IsSettled u planes q → Between u planes planes q
 between-none u planes q of are settled = record {
   of = of;
-  are_tasks = are;
+  worklist = are;
   settled = settled;
   kept = λ l h. h;
   in_closure = has_base (unrolled u) (lits u planes);
@@ -129,11 +135,11 @@ between-none u planes q of are settled = record {
 }
 
 -- A task had its turn. What waits after it waits on, or is done.
-pub between-turn : (u : Unrolling) (x y z : PlaneSet) (q after left : Waiting) (t : Task) → Between u x y q → Wakes u y z q after → missing_of u z ≤ missing_of u y → Turns u t y z
-    → AreTasksOf u left → ((r : Task) → TaskWaits u after r → TaskWaits u left r ⊎ IsDone u r (has u z)) → Between u x z left
+pub between-turn : (u : Unrolling) (x y z : PlaneSet) (q after left : Worklist) (t : Task) → Between u x y q → Wakes u y z q after → missing_of u z ≤ missing_of u y → Turns u t y z
+    → IsWorklistOf u left → ((r : Task) → TaskWaits u after r → TaskWaits u left r ⊎ IsDone u r (has u z)) → Between u x z left
 between-turn u x y z q after left t before wakes no_more turn are waits_on = record {
   of = wakes.of;
-  are_tasks = are;
+  worklist = are;
   settled = λ r is. settled r is;
   kept = λ l h. has-kept u y z wakes.bits l (before.kept l h);
   in_closure = λ l h. elim (turn.only l h) [
@@ -154,8 +160,8 @@ between-turn u x y z q after left t before wakes no_more turn are waits_on = rec
         ]
 
 -- what waits where the task was taken if it was done
-pub left-done : (u : Unrolling) (z : PlaneSet) (after left : Waiting) (s : Sig) (chunk : ℕ) (again : Bool)
-    → ((r : Sig) (c : ℕ) → Waits after r c → Waits left r c ⊎ ((again ≡ false) × (r ≡ s) × (c ≡ chunk)))
+pub left-done : (u : Unrolling) (z : PlaneSet) (after left : Worklist) (s : Sig) (chunk : ℕ) (again : Bool)
+    → ((r : Sig) (c : ℕ) → Waits after.waiting r c → Waits left.waiting r c ⊎ ((again ≡ false) × (r ≡ s) × (c ≡ chunk)))
     → (again ≡ false → IsDone u (task_at u s chunk) (has u z)) → (t : Task) → TaskWaits u after t → TaskWaits u left t ⊎ IsDone u t (has u z)
 left-done u z after left s chunk again kept done t waits =
     elim (kept (target_of u t) (chunk_of u t) waits) [
@@ -166,10 +172,10 @@ left-done u z after left s chunk again kept done t waits =
     ]
 
 -- some turns after others
-pub between-then : (u : Unrolling) (x y z : PlaneSet) (q r : Waiting) → Between u x y q → Between u y z r → Between u x z r
+pub between-then : (u : Unrolling) (x y z : PlaneSet) (q r : Worklist) → Between u x y q → Between u y z r → Between u x z r
 between-then u x y z q r first second = record {
   of = second.of;
-  are_tasks = second.are_tasks;
+  worklist = second.worklist;
   settled = second.settled;
   kept = λ l h. second.kept l (first.kept l h);
   in_closure = λ l h. (same_closure (unrolled u) (lits u x) (lits u y) first.kept first.in_closure).0 l (second.in_closure l h);
@@ -177,19 +183,19 @@ between-then u x y z q r first second = record {
 }
 
 -- where no task waits, nothing more is forced
-pub all-done : (u : Unrolling) (planes : PlaneSet) (q : Waiting) → IsSettled u planes q → ((s : Sig) (c : ℕ) → Waits q s c → ⊥) → IsClosed (unrolled u) (lits u planes)
+pub all-done : (u : Unrolling) (planes : PlaneSet) (q : Worklist) → IsSettled u planes q → HasNone q → IsClosed (unrolled u) (lits u planes)
 all-done u planes q settled none =
     (closed_where_done u (has u planes)).1 (λ t is. elim (settled t is) [
       | inl waits ↦ absurd (none (target_of u t) (chunk_of u t) waits)
       | inr done ↦ done
     ])
 
-pub closure-is : (u : Unrolling) (x y : PlaneSet) (q : Waiting) → Between u x y q → IsClosed (unrolled u) (lits u y) → SameLits (lits u y) (Closure (unrolled u) (lits u x))
+pub closure-is : (u : Unrolling) (x y : PlaneSet) (q : Worklist) → Between u x y q → IsClosed (unrolled u) (lits u y) → SameLits (lits u y) (Closure (unrolled u) (lits u x))
 closure-is u x y q between closed = closed_between (unrolled u) (lits u x) (lits u y) between.kept between.in_closure closed
 
 -- what was forced is added, where its words are joined into the blocks
-pub forced-added : (u : Unrolling) (task : InChunk) → task.chunk < chunks_in u → (seen old new : PlaneSet) (in_chunks : List InChunk) (out : List PinWord)
+pub forced-added : (u : Unrolling) (task : InChunk) (seen old new : PlaneSet) (in_chunks : List InChunk) (out : List PinWord)
     → AreForced u seen task in_chunks out → JoinsFirst (map (block_in u) in_chunks) out (length in_chunks) old new → AddsForced u (task_in u task) seen old new
-forced-added u task early seen old new in_chunks out are joins =
-    adds-forced u are.problem (task_in u task) seen old new (map (block_in u) in_chunks) out (are.blocks_are ∙ sym (blocks-at u task.sig task.chunk early)) are.exact
+forced-added u task seen old new in_chunks out are joins =
+    adds-forced u (task_in u task) seen old new (map (block_in u) in_chunks) out are.has_cells are.exact
     (subst (λ n. JoinsFirst (map (block_in u) in_chunks) out n old new) (sym (length-map in_chunks (block_in u))) joins)

@@ -1,3 +1,4 @@
-pub mod Queues
+pub mod Changes
 pub mod Turns
-pub mod Levels
+pub mod Wavefront
+pub mod Worklist

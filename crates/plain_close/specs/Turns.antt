@@ -1,76 +1,37 @@
 -- What turns of tasks make of planes and of the tasks that wait.
-use Rattle.std.specs.Prelude.{ℕ, ◌≡◌, ◌*◌, ◌+◌, ◌-◌, ◌<◌, ◌≤◌, ◌⊎◌, ◌&&◌, ◌||◌, ◌++◌, ◌∷◌, [], Bool, true, false, nat_lt, if◌then◌else◌, IsTrue, IsFalse, List, length, map, slice_index_or}
+use Rattle.std.specs.Prelude.{ℕ, ◌≡◌, ◌*◌, ◌-◌, ◌<◌, ◌≤◌, ◌⊎◌, Bool, true, false, IsTrue, IsFalse, List, length, map, slice_index_or}
 use Rattle.std.specs.List.{All, Contains}
 use Rattle.sr_model.specs.declared.cells.Sig.{Sig}
 use Rattle.sr_model.specs.declared.cells.Cell.{Cell}
 use Rattle.sr_model.specs.declared.cells.Lit.{Lit}
-use Rattle.sr_model.specs.Closure.{Closure, IsWithin, lit}
-use Rattle.sr_model.specs.Netlist.{Driver, Input, Driven}
-use Rattle.netlist.specs.Wiring.{driver_at, is_flip_flop, reads, other_readers}
+use Rattle.sr_model.specs.Closure.{Closure, HasBoth, IsWithin, lit}
 use Rattle.unroll.specs.declared.problem.Block.{Block}
+use Rattle.unroll.specs.declared.problem.InChunk.{InChunk}
 use Rattle.unroll.specs.declared.problem.Task.{Task}
 use Rattle.unroll.specs.declared.words.PinWord.{PinWord}
-use Rattle.unroll.specs.Bits.{is_set, word_for}
-use Rattle.unroll.specs.Problem.{Unrolling, IsProblem, IsInside, HaveNoLaterBit, unrolled, signals_in, chunks_in, blocks_in, block_at, block_in}
-use Rattle.unroll.specs.Tasks.{IsTask, IsTaskAt, IsCellOf, task_at, task_in, target_of, chunk_of, blocks_from}
+use Rattle.unroll.specs.Problem.{Unrolling, IsProblem, IsInside, HaveNoLaterBit, unrolled, signals_in, blocks_in, block_at, block_in, block_of}
+use Rattle.unroll.specs.Tasks.{IsCellOf, task_in}
 use Rattle.gate_rules.specs.Forced.{AreForcedBy, ForcedIn, IsDone, bit_at_place}
 use Rattle.known_planes.specs.Counts.{literal_count}
 use Rattle.known_planes.specs.Planes.{PlaneSet, IsOf, has, has_bit, lits, words_at}
-use Rattle.plain_close.specs.Queues.{Waiting, Waits, IsFirst}
-use Rattle.unroll.specs.declared.problem.InChunk.{InChunk}
-
--- the queues are over the problem's signals and chunks, and what waits there are tasks
-pub record AreTasksOf (u : Unrolling) (q : Waiting) : Type 0 where
-  pub signals : q.signals ≡ signals_in u
-  pub chunks : length q.rows ≡ chunks_in u
-  pub tasks : (s : Sig) (chunk : ℕ) → Waits q s chunk → IsTaskAt u (record { sig = s; chunk = chunk })
-
-abbrev pub TaskWaits : Unrolling → Waiting → Task → Type 0
-TaskWaits u q t = Waits q (target_of u t) (chunk_of u t)
-
--- each task waits or is done
-abbrev pub IsSettled : Unrolling → PlaneSet → Waiting → Type 0
-IsSettled u planes q = (t : Task) → IsTask u t → TaskWaits u q t ⊎ IsDone u t (has u planes)
-
--- the tasks of a list wait, too
-pub record Pushed (u : Unrolling) (tasks : List Task) (before after : Waiting) : Type 0 where
-  pub are_tasks : AreTasksOf u after
-  pub kept : (t : Task) → TaskWaits u before t → TaskWaits u after t
-  pub first : (s : Sig) (chunk : ℕ) → IsFirst before s chunk → IsFirst after s chunk
-  pub pushed : (t : Task) → Contains tasks t → TaskWaits u after t
-
--- a flip-flop's tasks that fresh bits of its block are in: bit 0 is in that of the chunk before, and the others are in that of the chunk, where they all are if the flip-flop is its own pin
-abbrev pub before_woken : Unrolling → Sig → ℕ → ℕ → List Task
-before_woken u s chunk fresh = if nat_lt 0 chunk && is_set fresh 0 then task_at u s (chunk - 1) ∷ [] else []
-
-abbrev pub chunk_woken : Unrolling → Driver → Sig → ℕ → ℕ → List Task
-chunk_woken u driver s chunk fresh = if nat_lt 1 fresh || reads driver s then task_at u s chunk ∷ [] else []
-
--- the tasks of a signal itself that they are in
-abbrev pub own_woken : Unrolling → Driver → Sig → ℕ → ℕ → List Task
-own_woken u Input s chunk fresh = []
-own_woken u (Driven kind pins) s chunk fresh =
-    if is_flip_flop (Driven kind pins) then before_woken u s chunk fresh ++ chunk_woken u (Driven kind pins) s chunk fresh else task_at u s chunk ∷ []
-
--- all tasks that they are in
-abbrev pub woken_from : Unrolling → Sig → ℕ → ℕ → List Task
-woken_from u s chunk fresh = own_woken u (driver_at u.circuit.drivers s.0) s chunk fresh ++ map (λ r. task_at u r chunk) (other_readers u.circuit.drivers s)
+use Rattle.plain_close.specs.declared.turns.Turned.{Turned}
+use Rattle.plain_close.specs.declared.worklist.Worklist.{Worklist}
+use Rattle.plain_close.specs.Worklist.{IsWorklistOf, IsSettled, TaskWaits}
 
 -- how many literals the planes may gain at most
 abbrev pub missing_of : Unrolling → PlaneSet → ℕ
 missing_of u planes = 128 * blocks_in u - literal_count u planes
 
 -- nothing is lost, and each task with a cell whose literals changed waits
-pub record Wakes (u : Unrolling) (old new : PlaneSet) (before after : Waiting) : Type 0 where
+pub record Wakes (u : Unrolling) (old new : PlaneSet) (before after : Worklist) : Type 0 where
   pub of : IsOf u new
-  pub are_tasks : AreTasksOf u after
+  pub worklist : IsWorklistOf u after
   pub bits : (b : Block) (bit : Bool) (i : ℕ) → has_bit old b bit i ≡ true → has_bit new b bit i ≡ true
   pub kept : (t : Task) → TaskWaits u before t → TaskWaits u after t
-  pub first : (s : Sig) (chunk : ℕ) → IsFirst before s chunk → IsFirst after s chunk
   pub woken : (t : Task) → TaskWaits u after t ⊎ ((c : Cell) (bit : Bool) → IsCellOf u t c → has u new (lit c bit) ≡ has u old (lit c bit))
 
 -- nothing changed, or there is a literal more
-pub record Falls (u : Unrolling) (added : Bool) (old new : PlaneSet) (before after : Waiting) : Type 0 where
+pub record Falls (u : Unrolling) (added : Bool) (old new : PlaneSet) (before after : Worklist) : Type 0 where
   pub no_more : missing_of u new ≤ missing_of u old
   pub fewer : IsTrue added → missing_of u new < missing_of u old
   pub same : IsFalse added → (new ≡ old) × (after ≡ before)
@@ -98,11 +59,11 @@ pub record Sees (u : Unrolling) (planes : PlaneSet) (blocks : List Block) (in_ch
 abbrev pub HaveNoClash : PlaneSet → List Block → Type 0
 HaveNoClash planes blocks = (b : Block) (i : ℕ) → Contains blocks b → has_bit planes b false i ≡ true → has_bit planes b true i ≡ true → ⊥
 
--- what the buffers have once a task was seen: the signals and chunks of its blocks, and what the planes force there
+-- what a task forces from the planes, in blocks that have all its cells
 pub record AreForced (u : Unrolling) (planes : PlaneSet) (task : InChunk) (in_chunks : List InChunk) (out : List PinWord) : Type 0 where
   pub problem : IsProblem u
   pub inside : All (IsInside u) in_chunks
-  pub blocks_are : map (block_in u) in_chunks ≡ blocks_from u task.sig task.chunk
+  pub has_cells : (c : Cell) → IsCellOf u (task_in u task) c → Contains (map (block_in u) in_chunks) (block_of u c)
   pub out_size : length out ≡ length in_chunks
   pub exact : AreForcedBy u (task_in u task) (map (block_in u) in_chunks) (has u planes) out
   pub later : HaveNoLaterBit u (map (block_in u) in_chunks) out
@@ -116,10 +77,19 @@ pub record AddsForced (u : Unrolling) (t : Task) (seen old new : PlaneSet) : Typ
 abbrev pub Turns : Unrolling → Task → PlaneSet → PlaneSet → Type 0
 Turns u t old new = AddsForced u t old old new
 
+-- a turn of a task that went like this
+pub record IsTurn (u : Unrolling) (task : InChunk) (turned : Turned) (old new : PlaneSet) (before after : Worklist) : Type 0 where
+  pub wakes : Wakes u old new before after
+  pub falls : Falls u turned.added old new before after
+  pub turns : Turns u (task_in u task) old new
+  pub done : IsFalse turned.again → IsDone u (task_in u task) (has u new)
+  pub nothing : IsFalse turned.added → IsFalse turned.again
+  pub clash : IsTrue turned.clash → (c : Cell) × HasBoth (lits u new) c
+
 -- after some turns: nothing is lost, and all is in the closure
-pub record Between (u : Unrolling) (old new : PlaneSet) (after : Waiting) : Type 0 where
+pub record Between (u : Unrolling) (old new : PlaneSet) (after : Worklist) : Type 0 where
   pub of : IsOf u new
-  pub are_tasks : AreTasksOf u after
+  pub worklist : IsWorklistOf u after
   pub settled : IsSettled u new after
   pub kept : IsWithin (lits u old) (lits u new)
   pub in_closure : IsWithin (lits u new) (Closure (unrolled u) (lits u old))

@@ -1,7 +1,6 @@
-//! Closers and levels on small netlists, with values that were worked out by hand, and the tasks that wait.
+//! Closers and levels on small netlists, with values that were worked out by hand.
 mod closing;
 mod levels;
-mod queues;
 
 use netlist::{Netlist, are_statements, build};
 use sr_model::{Bytes, Kind, Names, Numbered, Statement, Statements};

@@ -5,7 +5,7 @@ use mathlib.Core.Path.{fun_ext}
 use Rattle.sr_model.specs.declared.cells.Cell.{Cell}
 use Rattle.sr_model.specs.declared.cells.Lit.{Lit}
 use Rattle.sr_model.specs.Closure.{Closure, HasBoth, IsClash, SameLits, passing}
-use Rattle.sr_model.specs.Dump.{Row, dump_has}
+use Rattle.sr_model.specs.Dump.{Known, Row, dump_has}
 use Rattle.unroll.specs.Problem.{Unrolling, signals_in, unrolled}
 use Rattle.known_planes.specs.Planes.{PlaneSet, IsOf, has, lits}
 use Rattle.known_planes.specs.Counts.{known_count}
@@ -25,6 +25,14 @@ module _ (u : Unrolling) (base : PlaneSet) (rows : List Row) (each : (l : Lit) �
 
   pub known_outcome : (planes : PlaneSet) → IsOf u planes → SameLits (lits u planes) (Closure (unrolled u) (lits u base)) → ((c : Cell) → HasBoth (lits u planes) c → ⊥) → IsKnown u rows planes
   known_outcome planes of closure no_clash = record { of = of; no_clash = no_clash; known = known_from (unrolled u) rows (has u base) (lits u planes) each closure }
+
+  -- a cell of which both literals follow from the base
+  pub known_both : (c : Cell) × HasBoth (Closure (unrolled u) (lits u base)) c → (c : Cell) × HasBoth (Known (unrolled u) rows) c
+  known_both = subst (λ test. (c : Cell) × HasBoth (Closure (unrolled u) (passing test)) c) same
+
+  -- and where none are, none follow from the rows
+  pub none_both : ((c : Cell) → HasBoth (Closure (unrolled u) (lits u base)) c → ⊥) → (c : Cell) → HasBoth (Known (unrolled u) rows) c → ⊥
+  none_both = subst (λ test. (c : Cell) → HasBoth (Closure (unrolled u) (passing test)) c → ⊥) same
 
   pub traced_outcome : (traced : ℕ) → traced ≡ known_count u.circuit u.cycles (has u base) → traced ≤ 536870912 → IsTraced u rows traced
   traced_outcome traced is few = (subst (λ test. traced ≡ known_count u.circuit u.cycles test) same is, few)

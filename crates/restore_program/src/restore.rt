@@ -1,13 +1,12 @@
 //! From a netlist and a dump to what is known.
 ghost use Rattle.std.specs.Prelude.{◌≡◌, ◌<◌, ◌≤◌, ℕ, List, length, All, IfOk, IfSome, IsNone, None};
 ghost use Rattle.sr_model.specs.declared.cells.Cell.{Cell as AnyCell};
-ghost use Rattle.sr_model.specs.declared.cells.Lit.{Lit};
 ghost use Rattle.sr_model.specs.Closure.{Closure, HasBoth, SameLits};
-ghost use Rattle.sr_model.specs.Dump.{Row, dump_has};
+ghost use Rattle.sr_model.specs.Dump.{Known};
 ghost use Rattle.report.specs.declared.refusal.Part.TheVariants as parts;
 ghost use Rattle.sr_model.specs.Limits.{block_count, max_blocks};
 ghost use Rattle.unroll.specs.Problem.{signals_in, unrolled};
-ghost use Rattle.known_planes.specs.Planes.{IsOf, has, lits};
+ghost use Rattle.known_planes.specs.Planes.{IsOf, lits};
 ghost use Rattle.restore_program.specs.Answer.{DumpAnswer, OnDump, OnRecording, RequestAnswer, most_bytes};
 ghost use Rattle.restore_program.specs.Faults.{IsComeTo};
 ghost use Rattle.restore_program.specs.Reads.{Reads};
@@ -126,12 +125,10 @@ fn outcome_of<R: Threads + Sync, C: Closer>(
     ensures { IfOk result (IsOutcome p.now dump.now.rows) }
 {
     let base = seed(alloc, p, dump)?;
-    match known_from(rt, alloc, closer, p, &base)? {
-        Some(planes) => Ok(Outcome::Known {
-            planes,
-            traced: base.count_known_flip_flops(p),
-        }),
-        None => clash_from(alloc, p, &base),
+    let traced = base.count_known_flip_flops(p);
+    match known_from(rt, alloc, closer, p, base)? {
+        Some(planes) => Ok(Outcome::Known { planes, traced }),
+        None => clash_from(alloc, p, dump),
     }
 }
 
@@ -141,13 +138,13 @@ fn known_from<R: Threads + Sync, C: Closer>(
     alloc: Global,
     closer: &mut C,
     p: &Problem,
-    base: &Planes,
+    base: Planes,
 ) -> Result<Option<Planes>, NoMemory>
-    requires { IsOf p.now base.now }
+    requires { IsOf p.now base }
     ensures of { IfOk result (λ found. IfSome found (IsOf p.now)) }
-    ensures closure { IfOk result (λ found. IfSome found (λ planes. SameLits (lits p.now planes) (Closure (unrolled p.now) (lits p.now base.now)))) }
+    ensures closure { IfOk result (λ found. IfSome found (λ planes. SameLits (lits p.now planes) (Closure (unrolled p.now) (lits p.now base)))) }
     ensures no_clash { IfOk result (λ found. IfSome found (λ planes. (c : AnyCell) → HasBoth (lits p.now planes) c → ⊥)) }
-    ensures none { IfOk result (λ found. IsNone found → (c : AnyCell) × HasBoth (Closure (unrolled p.now) (lits p.now base.now)) c) }
+    ensures none { IfOk result (λ found. IsNone found → (c : AnyCell) × HasBoth (Closure (unrolled p.now) (lits p.now base)) c) }
 {
     let planes = closer.close_until_clash(rt, alloc, p, base)?;
     match planes.clash(p) {
@@ -156,13 +153,15 @@ fn known_from<R: Threads + Sync, C: Closer>(
     }
 }
 
-/// The contradiction of a base whose closure has one.
-fn clash_from(alloc: Global, p: &Problem, base: &Planes) -> Result<Outcome, NoMemory>
-    requires of { IsOf p.now base.now }
-    requires some { (c : AnyCell) × HasBoth (Closure (unrolled p.now) (lits p.now base.now)) c }
-    ensures { (rows : List Row) → ((l : Lit) → has p.now base.now l ≡ dump_has rows l) → IfOk result (IsOutcome p.now rows) }
+/// The contradiction of a dump from which one follows. The closer took the dump's first planes, so they are made again.
+fn clash_from(alloc: Global, p: &Problem, dump: &Dump) -> Result<Outcome, NoMemory>
+    requires cycles { dump.now.cycles ≡ p.now.cycles }
+    requires signals { All (λ row. row.sig.0 < signals_in p.now) dump.now.rows }
+    requires some { (c : AnyCell) × HasBoth (Known (unrolled p.now) dump.now.rows) c }
+    ensures { IfOk result (IsOutcome p.now dump.now.rows) }
 {
-    match first_clash(alloc, p, base)? {
+    let base = seed(alloc, p, dump)?;
+    match first_clash(alloc, p, &base)? {
         Some(clash) => Ok(Outcome::Clash { cell: clash.cell }),
         None => unreachable!(),
     }

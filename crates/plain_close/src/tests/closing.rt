@@ -184,7 +184,7 @@ fn expect_closed(
     let closed = closer.close(rt, alloc, &p, &base)?;
     expect_words(rt, &p, &closed, want);
     if closed.clash(&p).is_none() {
-        let known = closer.close_until_clash(rt, alloc, &p, &base)?;
+        let known = closer.close_until_clash(rt, alloc, &p, base)?;
         expect_words(rt, &p, &known, want);
     }
     Ok(())
@@ -230,7 +230,7 @@ fn stops_at_a_clash(rt: HostRuntime) -> Result<(), Fail> {
     assert!(rt; net.signals() == 3);
     let p = Problem::new(&net, 1);
     let base = planes_with(&rt, alloc, &p, &[(0, 0, 1, 0), (2, 0, 0, 1)])?;
-    let known = PlainCloser::new().close_until_clash(&rt, alloc, &p, &base)?;
+    let known = PlainCloser::new().close_until_clash(&rt, alloc, &p, base)?;
     let cell = Cell {
         cycle: 0,
         sig: Sig(1),

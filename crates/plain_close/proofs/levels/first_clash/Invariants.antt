@@ -1,10 +1,15 @@
-use Rattle.std.proofs.Common.{◌-◌}
-use Rattle.plain_close.proofs.NextLevels.{LevelAt}
+use Rattle.std.proofs.Common.{◌≤◌, ◌*◌, ◌-◌}
+use Rattle.known_planes.specs.Counts.{literal_count}
+use Rattle.plain_close.specs.Wavefront.{IsFirst, IsWavefront}
 use Rattle.plain_close.proofs.levels.first_clash.Given as goal
 
-abbrev pub invariant-loop-cell : goal.invariant-loop-cell
-invariant-loop-cell l = LevelAt l.fn.p l.fn.base l.number l.level
+abbrev pub invariant-loop-wavefront : goal.invariant-loop-wavefront
+invariant-loop-wavefront l = record {
+  wavefront : IsWavefront l.fn.p l.fn.base (λ _. l.level) l.wavefront;
+  first : IsFirst l.fn.p l.fn.base (λ _. l.level) l.wavefront.first;
+  count : l.level ≤ 4 * literal_count l.fn.p l.wavefront.planes;
+}
 
--- each level but the last one adds a literal
-abbrev pub decreases-loop-cell : goal.decreases-loop-cell
-decreases-loop-cell l = 536870912 - l.number
+-- each time but the last one adds a literal
+abbrev pub decreases-loop-wavefront : goal.decreases-loop-wavefront
+decreases-loop-wavefront l = 536870912 - literal_count l.fn.p l.wavefront.planes

@@ -15,7 +15,7 @@ join-requires-clause-no_later c =
 
 pub loop-number-preserved : goal.loop-number-preserved
 loop-number-preserved c = (
-  wakes-then c.args.p.now c.args.planes.now c.loop-number.planes c.join.new.planes c.args.queues.now c.loop-number.queues c.join.new.queues c.loop-number.invariant.0 c.in_ok-join.ensures.wakes,
+  wakes-then c.args.p.now c.args.planes.now c.loop-number.planes c.join.new.planes c.args.worklist.now c.loop-number.worklist c.join.new.worklist c.loop-number.invariant.0 c.join.ensures.wakes,
   chunk-more c.args.p.now c.args.added.now c.args.chunk c.loop-number.number c.args.planes.now c.loop-number.planes c.join.new.planes c.word_in_chunk.result c.loop-number.invariant.1
-      c.word_in_chunk.ensures c.in_ok-join.ensures.joins,
+      c.word_in_chunk.ensures c.join.ensures.joins,
 )

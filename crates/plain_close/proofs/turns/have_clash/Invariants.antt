@@ -4,4 +4,4 @@ use Rattle.unroll.specs.Problem.{block_in}
 use Rattle.plain_close.proofs.turns.have_clash.Given as goal
 
 abbrev pub invariant-loop-at : goal.invariant-loop-at
-invariant-loop-at l = HaveNoClash l.planes (map (block_in l.p) (take l.at-index l.at-items))
+invariant-loop-at l = HaveNoClash l.planes (map (block_in l.p) (take l.at-index l.in_chunks))

@@ -5,5 +5,5 @@ use Rattle.plain_close.proofs.turns.join_all.Given as goal
 
 abbrev pub invariant-loop-index : goal.invariant-loop-index
 invariant-loop-index l =
-    Wakes l.p l.fn.planes l.planes l.fn.queues l.queues × Falls l.p l.added l.fn.planes l.planes l.fn.queues l.queues
-    × JoinsFirst (map (block_in l.p) l.fn.in_chunks.items) l.fn.out.items l.index l.fn.planes l.planes
+    Wakes l.p l.fn.planes l.planes l.fn.worklist l.worklist × Falls l.p l.added l.fn.planes l.planes l.fn.worklist l.worklist
+    × JoinsFirst (map (block_in l.p) l.fn.in_chunks) l.fn.out l.index l.fn.planes l.planes

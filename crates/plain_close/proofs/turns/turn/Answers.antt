@@ -1,19 +1,15 @@
-use Rattle.std.proofs.Common.{sym, ◌∙◌}
-use Rattle.unroll.proofs.lemmas.Laws.{block-sig, blocks-at}
-use Rattle.unroll.specs.Tasks.{task_at}
-use Rattle.plain_close.proofs.Turning.{forced-added, has-kept}
-use Rattle.plain_close.proofs.TurnedTasks.{done-after}
+use Rattle.unroll.specs.declared.records.Shape.TheVariants as shapes
+use Rattle.plain_close.proofs.FewBlocks.{shape-of}
 use Rattle.plain_close.proofs.turns.turn.Goals as goal
 
-pub returns-clause-turns : goal.returns-clause-turns
-returns-clause-turns c =
-    forced-added c.args.p.now c.args.task c.requires.task.early c.args.planes.now c.args.planes.now c.join_all.new.planes
-    c.force.new.buffers.in_chunks.items c.force.new.buffers.out.items c.in_ok-force.ensures.forced c.in_ok-added.ensures.joins
+pub force_one_pin-forced-requires-clause-shape : goal.force_one_pin-forced-requires-clause-shape
+force_one_pin-forced-requires-clause-shape c = (
+  c.get-record.result.second,
+  shape-of c.args.p.now c.args.worklist.now c.requires.worklist c.args.task.sig c.get-record.result.first c.get-record.result.second c.get-record.result.shape (shapes.OnePin c.in-OnePin.family) c.in-OnePin.is c.get-record.ensures,
+)
 
-pub returns-clause-done : goal.returns-clause-done
-returns-clause-done c =
-    done-after c.args.p.now c.in_ok-force.ensures.forced.problem (task_at c.args.p.now c.args.task.sig c.args.task.chunk) c.args.planes.now c.join_all.new.planes (returns-clause-turns c)
-    (has-kept c.args.p.now c.args.planes.now c.join_all.new.planes c.in_ok-added.ensures.wakes.bits) c.args.task.sig c.force.new.buffers.in_chunks.items c.in_ok-added.added c.outcome.result.again
-    c.args.queues.now c.join_all.new.queues (block-sig c.args.p.now c.args.task.sig c.args.task.chunk c.requires.task.early)
-    (c.in_ok-force.ensures.forced.blocks_are ∙ sym (blocks-at c.args.p.now c.args.task.sig c.args.task.chunk c.requires.task.early)) c.in_ok-added.ensures.falls
-    c.outcome.ensures.other c.outcome.ensures.none
+pub turn_flip_flop-requires-clause-shape : goal.turn_flip_flop-requires-clause-shape
+turn_flip_flop-requires-clause-shape c = (
+  c.get-record.result.second,
+  shape-of c.args.p.now c.args.worklist.now c.requires.worklist c.args.task.sig c.get-record.result.first c.get-record.result.second c.get-record.result.shape shapes.FlipFlop c.in-FlipFlop.is c.get-record.ensures,
+)
