@@ -1,5 +1,5 @@
 -- Words that are joined into several blocks.
-use Rattle.std.proofs.Common.{ℕ, ◌≡◌, ◌<◌, ◌+◌, true, List, length, map, get_or, arith, inl, inr, sym, ap, subst, ◌∙◌}
+use Rattle.std.proofs.Common.{ℕ, ◌≡◌, ◌<◌, ◌+◌, true, List, length, map, get_or, arith, inl, inr, refl, sym, ap, subst, ◌∙◌}
 use Rattle.std.specs.List.{All}
 use Rattle.std.proofs.lemmas.Bool.{cases_lt}
 use Rattle.std.proofs.lemmas.List.{get_or-map, length-map}
@@ -51,3 +51,9 @@ module _ (u : Unrolling) (in_chunks : List InChunk) (index : ℕ) (d at : InChun
   no_later-at out all later =
       subst (λ c. HasNoLaterBit u.cycles c (words_at_place out index)) (ap (chunk_at u) block-is ∙ block-chunk u at.sig at.chunk (is-inside all).1)
       (later index (subst (λ n. index < n) (sym (length-map in_chunks (block_in u))) within))
+
+-- the block of an index more
+pub joins-at : (u : Unrolling) (in_chunks : List InChunk) (words : List PinWord) (n : ℕ) (d : InChunk) (x y z : PlaneSet) → n < length in_chunks → JoinsFirst (map (block_in u) in_chunks) words n x y
+    → Joins (block_in u (get_or in_chunks n d)) (words_at_place words n) y z → JoinsFirst (map (block_in u) in_chunks) words (n + 1) x z
+joins-at u in_chunks words n d x y z within before step =
+    joins-more (map (block_in u) in_chunks) words n x y z before (subst (λ b. Joins b (words_at_place words n) y z) (sym (block-is u in_chunks n d (get_or in_chunks n d) within refl)) step)

@@ -17,5 +17,6 @@ mod Stirring
 mod TurnedTasks
 mod Turning
 mod UnderWay
+mod Unknown
 mod Viewing
 mod Waking

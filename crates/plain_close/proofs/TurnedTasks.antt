@@ -1,5 +1,5 @@
 -- A task after its turn.
-use Rattle.std.proofs.Common.{◌≡◌, ◌<◌, true, false, List, length, map, inl, inr, ap, subst, ◌∙◌}
+use Rattle.std.proofs.Common.{◌≡◌, ◌<◌, Bool, true, false, List, length, map, inl, inr, sym, ap, subst, ◌∙◌}
 use Rattle.std.proofs.lemmas.Bool.{cases_Bool}
 use Rattle.sr_model.specs.declared.cells.Cell.{Cell}
 use Rattle.sr_model.specs.Closure.{HasBoth, lit}
@@ -13,7 +13,7 @@ use Rattle.gate_rules.proofs.lemmas.Laws.{done_once}
 use Rattle.known_planes.specs.Planes.{PlaneSet, has, lits}
 use Rattle.plain_close.specs.declared.turns.Turned.{Turned}
 use Rattle.plain_close.specs.declared.worklist.Worklist.{Worklist}
-use Rattle.plain_close.specs.Turns.{AreForced, JoinsFirst, Turns, Wakes, Falls, IsTurn, HaveNoClash}
+use Rattle.plain_close.specs.Turns.{AreForced, JoinsFirst, Turns, Wakes, Falls, IsOutcome, IsTurn, HaveNoClash}
 use Rattle.plain_close.proofs.Turning.{forced-added, has-bit_of, has-kept}
 
 module _ (u : Unrolling) (task : InChunk) (early : task.chunk < chunks_in u) (old new : PlaneSet) (in_chunks : List InChunk) (out : List PinWord) (are : AreForced u old task in_chunks out)
@@ -53,3 +53,9 @@ module _ (u : Unrolling) (task : InChunk) (early : task.chunk < chunks_in u) (ol
     nothing = nothing;
     clash = clash;
   }
+
+  -- by what came of it
+  pub turn-came : (added own_pin : Bool) → own_pin ≡ drives_itself u task.sig → Falls u added old new before after → (turned : Turned)
+      → IsOutcome u new (map (block_in u) in_chunks) added own_pin turned → IsTurn u task turned old new before after
+  turn-came added own_pin own falls turned came =
+      turn-is turned (subst (λ b. Falls u b old new before after) (sym came.added_is) falls) (λ no_more some. (sym own ∙ (came.no_more no_more some).0, (came.no_more no_more some).1)) came.nothing came.clash

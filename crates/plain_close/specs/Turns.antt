@@ -10,6 +10,7 @@ use Rattle.unroll.specs.declared.problem.InChunk.{InChunk}
 use Rattle.unroll.specs.declared.problem.Task.{Task}
 use Rattle.unroll.specs.declared.words.PinWord.{PinWord}
 use Rattle.unroll.specs.Problem.{Unrolling, IsProblem, IsInside, HaveNoLaterBit, unrolled, signals_in, blocks_in, block_at, block_in, block_of}
+use Rattle.unroll.specs.Bits.{is_set, word_for}
 use Rattle.unroll.specs.Tasks.{IsCellOf, task_in}
 use Rattle.gate_rules.specs.Forced.{AreForcedBy, ForcedIn, IsDone, bit_at_place}
 use Rattle.known_planes.specs.Counts.{literal_count}
@@ -59,6 +60,14 @@ pub record Sees (u : Unrolling) (planes : PlaneSet) (blocks : List Block) (in_ch
 abbrev pub HaveNoClash : PlaneSet → List Block → Type 0
 HaveNoClash planes blocks = (b : Block) (i : ℕ) → Contains blocks b → has_bit planes b false i ≡ true → has_bit planes b true i ≡ true → ⊥
 
+-- the words are those of the blocks
+abbrev pub AreWordsOf : Unrolling → PlaneSet → List InChunk → List PinWord → Type 0
+AreWordsOf u planes in_chunks known = known ≡ map (λ at. words_at planes (block_in u at)) in_chunks
+
+-- each literal of the words is in the block
+abbrev pub AreInBlock : Unrolling → PlaneSet → InChunk → PinWord → Type 0
+AreInBlock u planes at known = (bit : Bool) (i : ℕ) → is_set (word_for bit known) i ≡ true → has_bit planes (block_in u at) bit i ≡ true
+
 -- what a task forces from the planes, in blocks that have all its cells
 pub record AreForced (u : Unrolling) (planes : PlaneSet) (task : InChunk) (in_chunks : List InChunk) (out : List PinWord) : Type 0 where
   pub problem : IsProblem u
@@ -85,6 +94,13 @@ pub record IsTurn (u : Unrolling) (task : InChunk) (turned : Turned) (old new : 
   pub done : IsFalse turned.again → IsDone u (task_in u task) (has u new)
   pub nothing : IsFalse turned.added → IsFalse turned.again
   pub clash : IsTrue turned.clash → (c : Cell) × HasBoth (lits u new) c
+
+-- whether something was added, and then: whether a cell of the blocks has both literals, and whether the task may force more
+pub record IsOutcome (u : Unrolling) (planes : PlaneSet) (blocks : List Block) (added own_pin : Bool) (turned : Turned) : Type 0 where
+  pub added_is : turned.added ≡ added
+  pub nothing : IsFalse turned.added → IsFalse turned.again
+  pub no_more : IsFalse turned.again → IsTrue turned.added → IsFalse own_pin × HaveNoClash planes blocks
+  pub clash : IsTrue turned.clash → (c : Cell) × HasBoth (lits u planes) c
 
 -- after some turns: nothing is lost, and all is in the closure
 pub record Between (u : Unrolling) (old new : PlaneSet) (after : Worklist) : Type 0 where

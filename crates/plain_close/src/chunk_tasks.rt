@@ -71,7 +71,7 @@ fn force_task(
 {
     match signal.shape {
         Shape::TwoPins(family) => {
-            let ThreeForced { in_chunks, out } = force_two_pins(
+            let ThreeForced { in_chunks, out, .. } = force_two_pins(
                 p,
                 planes,
                 task,
@@ -82,7 +82,13 @@ fn force_task(
             list_forced(p, task, false, planes, &in_chunks, &out, changes)
         }
         Shape::OnePin(family) => {
-            let TwoForced { in_chunks, out } = force_one_pin(p, planes, task, family, signal.first);
+            let TwoForced { in_chunks, out, .. } = force_one_pin(
+                p,
+                planes,
+                task,
+                family,
+                signal.first,
+            );
             list_forced(p, task, false, planes, &in_chunks, &out, changes)
         }
         Shape::FlipFlop => list_flip_flop(p, task, signal.first, planes, changes),
@@ -108,10 +114,10 @@ fn list_flip_flop(
     ensures { OnOk result (ForcesTask p.now planes.now task changes.old changes.new) }
 {
     if p.goes_on(task) {
-        let ThreeForced { in_chunks, out } = force_flip_flop(p, planes, task, pin);
+        let ThreeForced { in_chunks, out, .. } = force_flip_flop(p, planes, task, pin);
         list_forced(p, task, false, planes, &in_chunks, &out, changes)
     } else {
-        let TwoForced { in_chunks, out } = force_last_flip_flop(p, planes, task, pin);
+        let TwoForced { in_chunks, out, .. } = force_last_flip_flop(p, planes, task, pin);
         list_forced(p, task, false, planes, &in_chunks, &out, changes)
     }
 }

@@ -7,23 +7,25 @@ ghost use Rattle.unroll.specs.Tasks.{IsTaskAt};
 ghost use Rattle.unroll.specs.Records.{HasShape};
 ghost use Rattle.unroll.specs.declared.records.Shape.TheVariants as shapes;
 ghost use Rattle.known_planes.specs.Planes.{IsOf};
-ghost use Rattle.plain_close.specs.Turns.{AreForced};
+ghost use Rattle.plain_close.specs.Turns.{AreForced, AreWordsOf};
 
 use gate_rules::{forced_flip_flop, forced_last_flip_flop, forced_one_pin, forced_two_pins};
 use known_planes::Planes;
 use sr_model::{Family, Sig};
 use unroll::{InChunk, PinWord, Problem};
 
-/// The blocks of a task, and what it forces there.
+/// The blocks of a task, what is known there, and what it forces there.
 #[derive(Clone, Copy)]
 pub(crate) struct TwoForced {
     pub(crate) in_chunks: [InChunk; 2],
+    pub(crate) known: [PinWord; 2],
     pub(crate) out: [PinWord; 2],
 }
 
 #[derive(Clone, Copy)]
 pub(crate) struct ThreeForced {
     pub(crate) in_chunks: [InChunk; 3],
+    pub(crate) known: [PinWord; 3],
     pub(crate) out: [PinWord; 3],
 }
 
@@ -40,13 +42,15 @@ pub(crate) fn force_one_pin(
     requires of { IsOf p.now planes.now }
     requires task { IsTaskAt p.now task }
     requires shape { (other : AnySig) × HasShape (shapes.OnePin family) (driver_at p.now.circuit.drivers task.sig.0) task.sig pin other }
-    ensures { AreForced p.now planes.now task result.in_chunks result.out }
+    ensures forced { AreForced p.now planes.now task result.in_chunks result.out }
+    ensures known { AreWordsOf p.now planes.now result.in_chunks result.known }
 {
     let chunk = task.chunk;
     let pin = InChunk { sig: pin, chunk };
     let known = [planes.word_in_chunk(p, task), planes.word_in_chunk(p, pin)];
     TwoForced {
         in_chunks: [task, pin],
+        known,
         out: forced_one_pin(family, known),
     }
 }
@@ -65,7 +69,8 @@ pub(crate) fn force_two_pins(
     requires of { IsOf p.now planes.now }
     requires task { IsTaskAt p.now task }
     requires shape { HasShape (shapes.TwoPins family) (driver_at p.now.circuit.drivers task.sig.0) task.sig first second }
-    ensures { AreForced p.now planes.now task result.in_chunks result.out }
+    ensures forced { AreForced p.now planes.now task result.in_chunks result.out }
+    ensures known { AreWordsOf p.now planes.now result.in_chunks result.known }
 {
     let chunk = task.chunk;
     let first = InChunk { sig: first, chunk };
@@ -77,6 +82,7 @@ pub(crate) fn force_two_pins(
     ];
     ThreeForced {
         in_chunks: [task, first, second],
+        known,
         out: forced_two_pins(family, known),
     }
 }
@@ -90,7 +96,8 @@ pub(crate) fn force_flip_flop(p: &Problem, planes: &Planes, task: InChunk, pin: 
     requires shape { (other : AnySig) × HasShape shapes.FlipFlop (driver_at p.now.circuit.drivers task.sig.0) task.sig pin other }
     requires next { task.chunk + 1 < chunks_in p.now }
     requires few { task.chunk + 1 < 128 }
-    ensures { AreForced p.now planes.now task result.in_chunks result.out }
+    ensures forced { AreForced p.now planes.now task result.in_chunks result.out }
+    ensures known { AreWordsOf p.now planes.now result.in_chunks result.known }
 {
     let sig = task.sig;
     let chunk = task.chunk;
@@ -106,6 +113,7 @@ pub(crate) fn force_flip_flop(p: &Problem, planes: &Planes, task: InChunk, pin: 
     ];
     ThreeForced {
         in_chunks: [task, pin, next],
+        known,
         out: forced_flip_flop(p.valid_next_bits(chunk), known),
     }
 }
@@ -123,13 +131,15 @@ pub(crate) fn force_last_flip_flop(
     requires task { IsTaskAt p.now task }
     requires shape { (other : AnySig) × HasShape shapes.FlipFlop (driver_at p.now.circuit.drivers task.sig.0) task.sig pin other }
     requires last { task.chunk + 1 ≡ chunks_in p.now }
-    ensures { AreForced p.now planes.now task result.in_chunks result.out }
+    ensures forced { AreForced p.now planes.now task result.in_chunks result.out }
+    ensures known { AreWordsOf p.now planes.now result.in_chunks result.known }
 {
     let chunk = task.chunk;
     let pin = InChunk { sig: pin, chunk };
     let known = [planes.word_in_chunk(p, task), planes.word_in_chunk(p, pin)];
     TwoForced {
         in_chunks: [task, pin],
+        known,
         out: forced_last_flip_flop(p.valid_next_bits(chunk), known),
     }
 }

@@ -1,5 +1,5 @@
 //! Turns of tasks: what a task forces is added, and the tasks about it wait again.
-ghost use Rattle.std.specs.Prelude.{ℕ, ◌≡◌, ◌<◌, ◌≤◌, ◌⊎◌, length, map, IfOk, OnOk, IsFalse, IsTrue, All};
+ghost use Rattle.std.specs.Prelude.{ℕ, ◌≡◌, ◌<◌, ◌≤◌, ◌⊎◌, length, map, IfOk, OnOk, IsFalse, IsTrue, All, false};
 ghost use Rattle.sr_model.specs.declared.cells.Sig.{Sig as AnySig};
 ghost use Rattle.sr_model.specs.declared.cells.Cell.{Cell as AnyCell};
 ghost use Rattle.sr_model.specs.Limits.{max_gate_signals};
@@ -12,9 +12,11 @@ ghost use Rattle.unroll.specs.declared.records.Shape.TheVariants as shapes;
 ghost use Rattle.unroll.specs.Waiting.{Waits, waiting_measure};
 ghost use Rattle.known_planes.specs.Planes.{IsOf, Joins, lits};
 ghost use Rattle.plain_close.specs.Worklist.{IsWorklistOf, IsSettled};
-ghost use Rattle.plain_close.specs.Turns.{Wakes, Falls, JoinsFirst, AreForced, IsTurn, Between, HaveNoClash, missing_of};
+ghost use Rattle.plain_close.specs.Turns.{Wakes, Falls, JoinsFirst, AreForced, AreInBlock, AreWordsOf, IsOutcome, IsTurn, Between, HaveNoClash, missing_of};
 
-use crate::few_blocks::{force_flip_flop, force_last_flip_flop, force_one_pin, force_two_pins};
+use crate::few_blocks::{
+    ThreeForced, TwoForced, force_flip_flop, force_last_flip_flop, force_one_pin, force_two_pins,
+};
 use crate::many_blocks::{Buffers, force};
 use crate::worklist::Worklist;
 use known_planes::Planes;
@@ -158,27 +160,11 @@ fn turn(
     match record.shape {
         Shape::TwoPins(family) => {
             let forced = force_two_pins(p, planes, task, family, record.first, record.second);
-            Ok(join_forced(
-                p,
-                task,
-                false,
-                planes,
-                worklist,
-                &forced.in_chunks,
-                &forced.out,
-            ))
+            Ok(join_three(p, task, planes, worklist, &forced))
         }
         Shape::OnePin(family) => {
             let forced = force_one_pin(p, planes, task, family, record.first);
-            Ok(join_forced(
-                p,
-                task,
-                false,
-                planes,
-                worklist,
-                &forced.in_chunks,
-                &forced.out,
-            ))
+            Ok(join_two(p, task, planes, worklist, &forced))
         }
         Shape::FlipFlop => Ok(turn_flip_flop(p, task, planes, worklist, record.first)),
         Shape::OwnPin => turn_many(p, task, true, planes, worklist, buffers),
@@ -270,7 +256,81 @@ fn join_forced(
     requires own_pin { own_pin ≡ drives_itself p.now task.sig }
     ensures { IsTurn p.now task result planes.old planes.new worklist.old worklist.new }
 {
-    if !join_all(p, planes, worklist, in_chunks, out) {
+    let added = join_all(p, planes, worklist, in_chunks, out);
+    outcome(p, planes, in_chunks, added, own_pin)
+}
+
+/// Joins what the task of a gate with one pin forces. Of each block so much is known already as the task saw there.
+#[inline]
+fn join_two(
+    p: &Problem,
+    task: InChunk,
+    planes: &mut Planes,
+    worklist: &mut Worklist,
+    forced: &TwoForced,
+) -> Turned
+    requires problem { IsProblem p.now }
+    requires of { IsOf p.now planes.old }
+    requires worklist { IsWorklistOf p.now worklist.old }
+    requires task { IsTaskAt p.now task }
+    requires forced { AreForced p.now planes.old task forced.now.in_chunks forced.now.out }
+    requires known { AreWordsOf p.now planes.old forced.now.in_chunks forced.now.known }
+    requires other_pin { false ≡ drives_itself p.now task.sig }
+    ensures { IsTurn p.now task result planes.old planes.new worklist.old worklist.new }
+{
+    let TwoForced {
+        in_chunks,
+        known,
+        out,
+    } = forced;
+    let target = join_unknown(p, planes, worklist, in_chunks[0], known[0], out[0]);
+    let pin = join_unknown(p, planes, worklist, in_chunks[1], known[1], out[1]);
+    outcome(p, planes, in_chunks, pin | target, false)
+}
+
+/// The same of a gate with two pins.
+#[inline]
+fn join_three(
+    p: &Problem,
+    task: InChunk,
+    planes: &mut Planes,
+    worklist: &mut Worklist,
+    forced: &ThreeForced,
+) -> Turned
+    requires problem { IsProblem p.now }
+    requires of { IsOf p.now planes.old }
+    requires worklist { IsWorklistOf p.now worklist.old }
+    requires task { IsTaskAt p.now task }
+    requires forced { AreForced p.now planes.old task forced.now.in_chunks forced.now.out }
+    requires known { AreWordsOf p.now planes.old forced.now.in_chunks forced.now.known }
+    requires other_pins { false ≡ drives_itself p.now task.sig }
+    ensures { IsTurn p.now task result planes.old planes.new worklist.old worklist.new }
+{
+    let ThreeForced {
+        in_chunks,
+        known,
+        out,
+    } = forced;
+    let target = join_unknown(p, planes, worklist, in_chunks[0], known[0], out[0]);
+    let first = join_unknown(p, planes, worklist, in_chunks[1], known[1], out[1]);
+    let second = join_unknown(p, planes, worklist, in_chunks[2], known[2], out[2]);
+    outcome(p, planes, in_chunks, second | (first | target), false)
+}
+
+/// What became of a turn after which these blocks are so.
+#[inline]
+fn outcome(
+    p: &Problem,
+    planes: &Planes,
+    in_chunks: &[InChunk],
+    added: bool,
+    own_pin: bool,
+) -> Turned
+    requires of { IsOf p.now planes.now }
+    requires inside { All (IsInside p.now) in_chunks.now }
+    ensures { IsOutcome p.now planes.now (map (block_in p.now) in_chunks.now) added own_pin result }
+{
+    if !added {
         return Turned::nothing();
     }
     let clash = have_clash(p, planes, in_chunks);
@@ -323,8 +383,34 @@ fn join_all(
     added
 }
 
-/// Joins words into a block. Where that changes it, all tasks that the new bits are in wait; the answer is whether it did.
+/// Joins words into a block of which so much is known; if that is all, it reads no more of it.
 #[inline]
+fn join_unknown(
+    p: &Problem,
+    planes: &mut Planes,
+    worklist: &mut Worklist,
+    at: InChunk,
+    known: PinWord,
+    words: PinWord,
+) -> bool
+    requires problem { IsProblem p.now }
+    requires of { IsOf p.now planes.old }
+    requires worklist { IsWorklistOf p.now worklist.old }
+    requires inside { IsInside p.now at }
+    requires no_later { HasNoLaterBit p.now.cycles at.chunk words }
+    requires known { AreInBlock p.now planes.old at known }
+    ensures wakes { Wakes p.now planes.old planes.new worklist.old worklist.new }
+    ensures falls { Falls p.now result planes.old planes.new worklist.old worklist.new }
+    ensures joins { Joins (block_in p.now at) words planes.old planes.new }
+{
+    let fresh = words.without(known).known();
+    if fresh == 0 {
+        return false;
+    }
+    join(p, planes, worklist, at, words)
+}
+
+/// Joins words into a block. Where that changes it, all tasks that the new bits are in wait; the answer is whether it did.
 pub(crate) fn join(
     p: &Problem,
     planes: &mut Planes,

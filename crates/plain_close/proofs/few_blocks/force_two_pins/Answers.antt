@@ -13,8 +13,8 @@ pub word_in_chunk-requires-3-clause-inside : goal.word_in_chunk-requires-3-claus
 word_in_chunk-requires-3-clause-inside c =
     pin-inside c.args.p.now c.requires.problem c.args.task c.requires.task c.requires.shape.0 (c.args.first ∷ c.args.second ∷ []) c.requires.shape.1 c.args.second (Contains-there c.args.first (c.args.second ∷ []) c.args.second (Contains-here c.args.second []))
 
-pub returns : goal.returns
-returns c =
+pub returns-clause-forced : goal.returns-clause-forced
+returns-clause-forced c =
     few-forced c.args.p.now c.requires.problem c.args.planes.now c.requires.of (two_pin_places c.args.task c.args.first c.args.second)
     (three-inside c.args.p.now c.args.task (record { sig = c.args.first; chunk = c.args.task.chunk }) (record { sig = c.args.second; chunk = c.args.task.chunk }) (c.requires.task.signal, c.requires.task.early)
     (pin-inside c.args.p.now c.requires.problem c.args.task c.requires.task c.requires.shape.0 (c.args.first ∷ c.args.second ∷ []) c.requires.shape.1 c.args.first (Contains-here c.args.first (c.args.second ∷ [])))
@@ -25,3 +25,8 @@ returns c =
     c.args.task c.forced_two_pins.result (search rules)
     (two-pin-cells c.args.p.now c.args.task c.requires.task.early c.requires.shape.0 c.args.first c.args.second c.requires.shape.1 c.requires.shape.3)
     (c.forced_two_pins.ensures c.args.p.now c.args.task c.args.first c.args.second c.requires.problem c.requires.task c.requires.shape)
+
+pub returns-clause-known : goal.returns-clause-known
+returns-clause-known c =
+    view-three c.args.p.now c.args.planes.now c.args.task (record { sig = c.args.first; chunk = c.args.task.chunk }) (record { sig = c.args.second; chunk = c.args.task.chunk }) c.word_in_chunk.result c.word_in_chunk-2.result c.word_in_chunk-3.result
+    c.word_in_chunk.ensures c.word_in_chunk-2.ensures c.word_in_chunk-3.ensures

@@ -1,10 +1,8 @@
-use Rattle.std.proofs.Common.{refl, subst, sym, map, get_or}
-use Rattle.gate_rules.specs.Lanes.{words_at_place}
-use Rattle.known_planes.specs.Planes.{Joins}
+use Rattle.std.proofs.Common.{refl, map, get_or}
 use Rattle.unroll.specs.declared.problem.InChunk.{InChunk}
 use Rattle.unroll.specs.Problem.{block_in}
 use Rattle.plain_close.proofs.Waking.{wakes-none, wakes-then, falls-none, falls-then}
-use Rattle.plain_close.proofs.Joining.{joins-none, joins-more, block-is, no_later-at}
+use Rattle.plain_close.proofs.Joining.{joins-none, joins-at, no_later-at}
 use Rattle.plain_close.proofs.turns.join_all.Goals as goal
 
 abbrev nowhere : InChunk
@@ -22,11 +20,7 @@ loop-index-preserved c = (
   wakes-then c.args.p.now c.args.planes.now c.loop-index.planes c.join-added.new.planes c.args.worklist.now c.loop-index.worklist c.join-added.new.worklist c.loop-index.invariant.0 c.join-added.ensures.wakes,
   falls-then c.args.p.now c.loop-index.added c.join-added.result c.args.planes.now c.loop-index.planes c.join-added.new.planes c.args.worklist.now c.loop-index.worklist c.join-added.new.worklist
       c.loop-index.invariant.1 c.join-added.ensures.falls,
-  joins-more (map (block_in c.args.p.now) c.args.in_chunks.now) c.args.out.now c.loop-index.index c.args.planes.now c.loop-index.planes c.join-added.new.planes
-      c.loop-index.invariant.2
-      (subst (λ b. Joins b (words_at_place c.args.out.now c.loop-index.index) c.loop-index.planes c.join-added.new.planes)
-      (sym (block-is c.args.p.now c.args.in_chunks.now c.loop-index.index nowhere (get_or c.args.in_chunks.now c.loop-index.index nowhere) c.loop-index-test.true refl))
-      c.join-added.ensures.joins),
+  joins-at c.args.p.now c.args.in_chunks.now c.args.out.now c.loop-index.index nowhere c.args.planes.now c.loop-index.planes c.join-added.new.planes c.loop-index-test.true c.loop-index.invariant.2 c.join-added.ensures.joins,
 )
 
 pub join-added-requires-clause-no_later : goal.join-added-requires-clause-no_later

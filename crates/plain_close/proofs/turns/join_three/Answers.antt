@@ -1,0 +1,48 @@
+use Rattle.std.proofs.Common.{rules, refl, subst, map, get_or}
+use Rattle.unroll.specs.declared.problem.InChunk.{InChunk}
+use Rattle.unroll.specs.Problem.{block_in}
+use Rattle.plain_close.specs.Turns.{JoinsFirst}
+use Rattle.plain_close.proofs.Joining.{joins-at, joins-none, no_later-at}
+use Rattle.plain_close.proofs.TurnedTasks.{turn-came}
+use Rattle.plain_close.proofs.Unknown.{in-block}
+use Rattle.plain_close.proofs.Waking.{falls-then, wakes-then}
+use Rattle.plain_close.proofs.turns.join_three.Goals as goal
+
+abbrev nowhere : InChunk
+nowhere = record { sig = record { 0 = 0 }; chunk = 0 }
+
+pub join_unknown-target-requires-clause-no_later : goal.join_unknown-target-requires-clause-no_later
+join_unknown-target-requires-clause-no_later c =
+    no_later-at c.args.p.now c.args.forced.now.in_chunks 0 nowhere (get_or c.args.forced.now.in_chunks 0 nowhere) (search rules) refl c.args.forced.now.out c.requires.forced.inside c.requires.forced.later
+
+pub join_unknown-first-requires-clause-no_later : goal.join_unknown-first-requires-clause-no_later
+join_unknown-first-requires-clause-no_later c =
+    no_later-at c.args.p.now c.args.forced.now.in_chunks 1 nowhere (get_or c.args.forced.now.in_chunks 1 nowhere) (search rules) refl c.args.forced.now.out c.requires.forced.inside c.requires.forced.later
+
+pub join_unknown-first-requires-clause-known : goal.join_unknown-first-requires-clause-known
+join_unknown-first-requires-clause-known c =
+    in-block c.args.p.now c.args.planes.now c.join_unknown-target.new.planes c.args.forced.now.in_chunks c.args.forced.now.known 1 nowhere c.requires.known (search rules) (λ bit i h. c.join_unknown-target.ensures.wakes.bits (block_in c.args.p.now (get_or c.args.forced.now.in_chunks 1 nowhere)) bit i h)
+
+pub join_unknown-second-requires-clause-no_later : goal.join_unknown-second-requires-clause-no_later
+join_unknown-second-requires-clause-no_later c =
+    no_later-at c.args.p.now c.args.forced.now.in_chunks 2 nowhere (get_or c.args.forced.now.in_chunks 2 nowhere) (search rules) refl c.args.forced.now.out c.requires.forced.inside c.requires.forced.later
+
+pub join_unknown-second-requires-clause-known : goal.join_unknown-second-requires-clause-known
+join_unknown-second-requires-clause-known c =
+    in-block c.args.p.now c.args.planes.now c.join_unknown-first.new.planes c.args.forced.now.in_chunks c.args.forced.now.known 2 nowhere c.requires.known (search rules) (λ bit i h. c.join_unknown-first.ensures.wakes.bits (block_in c.args.p.now (get_or c.args.forced.now.in_chunks 2 nowhere)) bit i (c.join_unknown-target.ensures.wakes.bits (block_in c.args.p.now (get_or c.args.forced.now.in_chunks 2 nowhere)) bit i h))
+
+pub returns : goal.returns
+returns c =
+    let one : JoinsFirst (map (block_in c.args.p.now) c.args.forced.now.in_chunks) c.args.forced.now.out 1 c.args.planes.now c.join_unknown-target.new.planes =
+    joins-at c.args.p.now c.args.forced.now.in_chunks c.args.forced.now.out 0 nowhere c.args.planes.now c.args.planes.now c.join_unknown-target.new.planes (search rules) (joins-none (map (block_in c.args.p.now) c.args.forced.now.in_chunks) c.args.forced.now.out c.args.planes.now) c.join_unknown-target.ensures.joins in
+    let two : JoinsFirst (map (block_in c.args.p.now) c.args.forced.now.in_chunks) c.args.forced.now.out 2 c.args.planes.now c.join_unknown-first.new.planes =
+    joins-at c.args.p.now c.args.forced.now.in_chunks c.args.forced.now.out 1 nowhere c.args.planes.now c.join_unknown-target.new.planes c.join_unknown-first.new.planes (search rules) one c.join_unknown-first.ensures.joins in
+    let three : JoinsFirst (map (block_in c.args.p.now) c.args.forced.now.in_chunks) c.args.forced.now.out 3 c.args.planes.now c.join_unknown-second.new.planes =
+    joins-at c.args.p.now c.args.forced.now.in_chunks c.args.forced.now.out 2 nowhere c.args.planes.now c.join_unknown-first.new.planes c.join_unknown-second.new.planes (search rules) two c.join_unknown-second.ensures.joins in
+    turn-came c.args.p.now c.args.task c.requires.task.early c.args.planes.now c.join_unknown-second.new.planes c.args.forced.now.in_chunks c.args.forced.now.out c.requires.forced (subst (λ n. JoinsFirst (map (block_in c.args.p.now) c.args.forced.now.in_chunks) c.args.forced.now.out n c.args.planes.now c.join_unknown-second.new.planes) (search rules) three)
+    c.args.worklist.now c.join_unknown-second.new.worklist
+    (wakes-then c.args.p.now c.args.planes.now c.join_unknown-first.new.planes c.join_unknown-second.new.planes c.args.worklist.now c.join_unknown-first.new.worklist c.join_unknown-second.new.worklist (wakes-then c.args.p.now c.args.planes.now c.join_unknown-target.new.planes c.join_unknown-first.new.planes c.args.worklist.now c.join_unknown-target.new.worklist c.join_unknown-first.new.worklist c.join_unknown-target.ensures.wakes c.join_unknown-first.ensures.wakes) c.join_unknown-second.ensures.wakes)
+    _ _ c.requires.other_pins
+    (falls-then c.args.p.now _ c.join_unknown-second.result c.args.planes.now c.join_unknown-first.new.planes c.join_unknown-second.new.planes c.args.worklist.now c.join_unknown-first.new.worklist c.join_unknown-second.new.worklist
+    (falls-then c.args.p.now c.join_unknown-target.result c.join_unknown-first.result c.args.planes.now c.join_unknown-target.new.planes c.join_unknown-first.new.planes c.args.worklist.now c.join_unknown-target.new.worklist c.join_unknown-first.new.worklist c.join_unknown-target.ensures.falls c.join_unknown-first.ensures.falls) c.join_unknown-second.ensures.falls)
+    c.outcome.result c.outcome.ensures
