@@ -2,7 +2,7 @@
 use Rattle.std.proofs.Common.{◌≡◌, ℕ, ◌≤◌, ◌<◌, Bool, List, [], ◌∷◌, ◌++◌, map, length, get_or, Option, Some, None, sym, refl, subst, ap, ◌∙◌, inl, inr, arith}
 use Rattle.std.proofs.Math.Seq.{get_or-append_seam}
 use Rattle.std.proofs.lemmas.List.{length-append}
-use Rattle.std.specs.Prelude.{IfSome, IsNone, IsErrOf, Result, Err}
+use Rattle.std.specs.Prelude.{IfErr, IfSome, IsNone, IsErrOf, Result, Err, Ok}
 use Rattle.sr_model.specs.Room.{WithRoom}
 use Rattle.sr_model.specs.declared.cells.Lit.{Lit}
 use Rattle.sr_model.specs.declared.statements.Numbered.{Numbered}
@@ -295,3 +295,14 @@ says words told shaky (replies.Known t) ready answer fault = plainly words told 
 says words told shaky (replies.Clash n cell) ready answer fault = plainly words told (replies.Clash n cell) answer tt
 says words told shaky (replies.Text text status) ready answer fault = says_text words told shaky text status ready answer
 says words told shaky (replies.Load loaded) ready answer fault = plainly words told (replies.Load loaded) answer tt
+
+-- a netlist that is held is refused by its text
+refused_text : (told : Option Held) (name text : List ℕ) (words : List (List ℕ)) (reply : Reply) → IfSome told (λ held. held name ≡ Some text) → Replies words (RefusedNetlist text) reply
+    → IfSome told (λ held. Replies words (OnRefused held name) reply)
+refused_text None name text words reply is replies = cc
+refused_text (Some held) name text words reply is replies = λ plain. (text, is, replies plain)
+
+pub refused_by_text : {T : Type 0} (told : Option Held) (name text : List ℕ) (result : Result T Reply) → IfSome told (λ held. held name ≡ Some text)
+    → IfErr result (λ reply. (words : List (List ℕ)) → Replies words (RefusedNetlist text) reply) → IfErr result (λ reply. (words : List (List ℕ)) → IfSome told (λ held. Replies words (OnRefused held name) reply))
+refused_by_text told name text (Ok n) is refused = cc
+refused_by_text told name text (Err reply) is refused = λ words. refused_text told name text words reply is (refused words)

@@ -1,5 +1,9 @@
 //! From the name of a netlist to the netlist.
-ghost use Rattle.std.specs.Prelude.{◌≡◌, ◌≤◌, List, ◌∷◌, ℕ, length, IfOk, IfErr, IfSome, None};
+ghost use Rattle.std.specs.Prelude.{All, ◌≡◌, ◌≤◌, List, ◌∷◌, ℕ, length, IfOk, IfErr, IfSome, None};
+ghost use Rattle.sr_model.specs.Declaration.{declared, declarations_of};
+ghost use Rattle.netlist.specs.Numbering.{IsStatement};
+ghost use Rattle.bench_reader.specs.Grammar.{Spells};
+ghost use Rattle.bench_reader.specs.Refusal.{IsRefusal};
 ghost use Rattle.report.specs.declared.refusal.Part.TheVariants as parts;
 ghost use Rattle.restore_program.specs.Reply.{IsReady};
 ghost use Rattle.restore_program.specs.Answer.{most_bytes, IsNetlistOf, IsNetlistText, OnRefused, RefusedNetlist};
@@ -9,9 +13,10 @@ ghost use Rattle.restore_program.specs.ReplyAnswers.{IsOfWords, Replies, fault_i
 ghost use Rattle.restore_program.specs.Requests.{File};
 
 use crate::reply::Reply;
-use bench_reader::read_bench;
+use bench_reader::{BenchRefusal, read_bench};
 use netlist::{Netlist, build};
 use report::{Part, Refusal};
+use sr_model::{Bytes, Statements};
 use sr_outside::{Inputs, ReadRefusal, read_whole};
 use std::alloc::Global;
 
@@ -40,7 +45,7 @@ pub(crate) fn read_netlist<I: Inputs>(
     ensures reads { (behind : List File) → Reads I.held I.shaky I.faults inputs.old inputs.new (IsComeTo (I.held inputs.old) ((parts.Netlist, name.now) ∷ behind)) (fault_in result) }
 {
     match read_whole(alloc, inputs, name, most_bytes(Part::Netlist)) {
-        Ok(text) => parse_netlist(alloc, text.as_slice()),
+        Ok(text) => parse_netlist(alloc, text),
         Err(refusal) => Err(Reply::Refused {
             refusal: unread(Part::Netlist, refusal),
         }),
@@ -58,16 +63,16 @@ pub(crate) fn unread(part: Part, refusal: ReadRefusal) -> Refusal
     }
 }
 
-/// The netlist of a text, or what is written in its place.
-fn parse_netlist(alloc: Global, bytes: &[u8]) -> Result<Netlist, Reply>
-    requires short { length bytes.now ≤ most_bytes parts.Netlist }
-    ensures netlist { IfOk result (IsNetlistText bytes.now) }
-    ensures refused { IfErr result (λ reply. (words : List (List ℕ)) → Replies words (RefusedNetlist bytes.now) reply) }
+/// The netlist of a text, or what is written in its place. The text's memory is given back before the netlist is built.
+fn parse_netlist(alloc: Global, text: Bytes) -> Result<Netlist, Reply>
+    requires short { length text.items ≤ most_bytes parts.Netlist }
+    ensures netlist { IfOk result (IsNetlistText text.items) }
+    ensures refused { IfErr result (λ reply. (words : List (List ℕ)) → Replies words (RefusedNetlist text.items) reply) }
     ensures ready { IfErr result (λ reply. (words : List (List ℕ)) → IsReady words reply) }
     ensures not_of_words { IfErr result (λ reply. ¬ (IsOfWords reply)) }
     ensures no_fault { fault_in result ≡ None }
 {
-    let statements = match read_bench(alloc, bytes) {
+    let statements = match read_statements(alloc, text) {
         Ok(statements) => statements,
         Err(refusal) => {
             return Err(Reply::Refused {
@@ -81,4 +86,13 @@ fn parse_netlist(alloc: Global, bytes: &[u8]) -> Result<Netlist, Reply>
             refusal: Refusal::Net(refusal),
         }),
     }
+}
+
+/// The statements of a text, which is not kept.
+fn read_statements(alloc: Global, text: Bytes) -> Result<Statements, BenchRefusal>
+    ensures statements { IfOk result (λ s. Spells text.items (declarations_of s)) }
+    ensures each { IfOk result (λ s. All IsStatement (declared s)) }
+    ensures refusal { IfErr result (IsRefusal text.items) }
+{
+    read_bench(alloc, text.as_slice())
 }
