@@ -13,6 +13,7 @@ use Rattle.gate_rules.proofs.lemmas.Laws.{done_once}
 use Rattle.known_planes.specs.Planes.{PlaneSet, has, lits}
 use Rattle.plain_close.specs.declared.turns.Turned.{Turned}
 use Rattle.plain_close.specs.declared.worklist.Worklist.{Worklist}
+use Rattle.plain_close.specs.Changes.{IsCalm}
 use Rattle.plain_close.specs.Turns.{AreForced, JoinsFirst, Turns, Wakes, Falls, IsOutcome, IsTurn, HaveNoClash}
 use Rattle.plain_close.proofs.Turning.{forced-added, has-bit_of, has-kept}
 
@@ -59,3 +60,26 @@ module _ (u : Unrolling) (task : InChunk) (early : task.chunk < chunks_in u) (ol
       → IsOutcome u new (map (block_in u) in_chunks) added own_pin turned → IsTurn u task turned old new before after
   turn-came added own_pin own falls turned came =
       turn-is turned (subst (λ b. Falls u b old new before after) (sym came.added_is) falls) (λ no_more some. (sym own ∙ (came.no_more no_more some).0, (came.no_more no_more some).1)) came.nothing came.clash
+
+  -- after one that was calm: what the task saw and forced forces no more there
+  pub turn-calm : (added clash : Bool) (turned : Turned) → Falls u added old new before after → turned.added ≡ added → (turned.clash ≡ true → clash ≡ true)
+      → (turned.again ≡ false → turned.added ≡ true → clash ≡ false) → (turned.added ≡ false → turned.again ≡ false)
+      → (clash ≡ false → IsCalm u (task_in u task) (has u old)) → (clash ≡ true → (c : Cell) × HasBoth (lits u new) c) → IsTurn u task turned old new before after
+  turn-calm added clash turned falls added_is clashes no_more nothing calm both = record {
+    wakes = wakes;
+    falls = subst (λ b. Falls u b old new before after) (sym added_is) falls;
+    turns = turns;
+    done = λ last. elim (cases_Bool turned.added) [
+      | inl some ↦ done-calm (calm (no_more last some))
+      | inr none ↦ done-same (falls.same (sym added_is ∙ none)).0
+    ];
+    nothing = nothing;
+    clash = λ told. both (clashes told);
+  }
+    where
+      done-calm : IsCalm u (task_in u task) (has u old) → IsDone u (task_in u task) (has u new)
+      done-calm none_left l f =
+          elim (none_left (has u new) (λ c bit of h. turns.only (lit c bit) h) l f) [
+            | inl known ↦ has-kept u old new wakes.bits l known
+            | inr forced ↦ turns.done l forced
+          ]

@@ -68,6 +68,10 @@ AreWordsOf u planes in_chunks known = known ≡ map (λ at. words_at planes (blo
 abbrev pub AreInBlock : Unrolling → PlaneSet → InChunk → PinWord → Type 0
 AreInBlock u planes at known = (bit : Bool) (i : ℕ) → is_set (word_for bit known) i ≡ true → has_bit planes (block_in u at) bit i ≡ true
 
+-- both literals of bit i are among those of the two words
+abbrev pub HasEach : PinWord → PinWord → ℕ → Type 0
+HasEach known out i = (bit : Bool) → (is_set (word_for bit known) i ≡ true) ⊎ (is_set (word_for bit out) i ≡ true)
+
 -- what a task forces from the planes, in blocks that have all its cells
 pub record AreForced (u : Unrolling) (planes : PlaneSet) (task : InChunk) (in_chunks : List InChunk) (out : List PinWord) : Type 0 where
   pub problem : IsProblem u

@@ -12,7 +12,7 @@ ghost use Rattle.unroll.specs.declared.records.Shape.TheVariants as shapes;
 ghost use Rattle.unroll.specs.Waiting.{Waits, waiting_measure};
 ghost use Rattle.known_planes.specs.Planes.{IsOf, Joins, lits};
 ghost use Rattle.plain_close.specs.Worklist.{IsWorklistOf, IsSettled};
-ghost use Rattle.plain_close.specs.Turns.{Wakes, Falls, JoinsFirst, AreForced, AreInBlock, AreWordsOf, IsOutcome, IsTurn, Between, HaveNoClash, missing_of};
+ghost use Rattle.plain_close.specs.Turns.{Wakes, Falls, JoinsFirst, AreForced, AreInBlock, AreWordsOf, HasEach, IsOutcome, IsTurn, Between, HaveNoClash, missing_of};
 
 use crate::few_blocks::{
     ThreeForced, TwoForced, force_flip_flop, force_last_flip_flop, force_one_pin, force_two_pins,
@@ -126,6 +126,21 @@ impl Turned {
             added: false,
             clash: false,
             again: false,
+        }
+    }
+
+    /// Something was added, or nothing, and the task may force more only where a cell of its blocks has both literals.
+    #[inline]
+    fn adding(added: bool, clash: bool) -> Turned
+        ensures added { result.added ≡ added }
+        ensures clash { IsTrue result.clash → IsTrue clash }
+        ensures again { IsFalse result.again → IsTrue result.added → IsFalse clash }
+        ensures nothing { IsFalse result.added → IsFalse result.again }
+    {
+        Turned {
+            added,
+            clash: added & clash,
+            again: added & clash,
         }
     }
 
@@ -285,7 +300,8 @@ fn join_two(
     } = forced;
     let target = join_unknown(p, planes, worklist, in_chunks[0], known[0], out[0]);
     let pin = join_unknown(p, planes, worklist, in_chunks[1], known[1], out[1]);
-    outcome(p, planes, in_chunks, pin | target, false)
+    let clash = have_both(known[0], out[0]) | have_both(known[1], out[1]);
+    Turned::adding(pin | target, clash)
 }
 
 /// The same of a gate with two pins.
@@ -314,7 +330,19 @@ fn join_three(
     let target = join_unknown(p, planes, worklist, in_chunks[0], known[0], out[0]);
     let first = join_unknown(p, planes, worklist, in_chunks[1], known[1], out[1]);
     let second = join_unknown(p, planes, worklist, in_chunks[2], known[2], out[2]);
-    outcome(p, planes, in_chunks, second | (first | target), false)
+    let clash = have_both(known[0], out[0])
+        | (have_both(known[1], out[1]) | have_both(known[2], out[2]));
+    Turned::adding(second | (first | target), clash)
+}
+
+/// Whether a cell has both literals among the known ones and the forced ones.
+#[inline]
+fn have_both(known: PinWord, out: PinWord) -> bool
+    ensures none { IsFalse result → (i : ℕ) → i < 64 → HasEach known out i → ⊥ }
+    ensures some { IsTrue result → (i : ℕ) × (i < 64) × HasEach known out i }
+{
+    let both = known.union(out).both();
+    both != 0
 }
 
 /// What became of a turn after which these blocks are so.

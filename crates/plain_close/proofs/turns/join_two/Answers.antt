@@ -1,10 +1,15 @@
-use Rattle.std.proofs.Common.{rules, refl, subst, map, get_or}
+use Rattle.gate_rules.specs.Lanes.{words_at_place}
+use Rattle.known_planes.specs.Planes.{has_bit}
+use Rattle.std.proofs.Common.{rules, refl, subst, sym, map, get_or, length, ◌<◌, ◌≡◌, ◌||◌, ℕ, Bool, true, inl, inr}
 use Rattle.unroll.specs.declared.problem.InChunk.{InChunk}
 use Rattle.unroll.specs.Problem.{block_in}
-use Rattle.plain_close.specs.Turns.{JoinsFirst}
+use Rattle.plain_close.specs.Turns.{HasEach, JoinsFirst, Wakes}
+use Rattle.plain_close.proofs.CalmTasks.{calm-task}
+use Rattle.unroll.specs.declared.problem.Block.{Block}
+use Rattle.std.proofs.lemmas.Bool.{or_cases}
 use Rattle.plain_close.proofs.Joining.{joins-at, joins-none, no_later-at}
-use Rattle.plain_close.proofs.TurnedTasks.{turn-came}
-use Rattle.plain_close.proofs.Unknown.{in-block}
+use Rattle.plain_close.proofs.TurnedTasks.{turn-calm}
+use Rattle.plain_close.proofs.Unknown.{clash-by, each-of-two, neither, no_clash-by, seen-in-block}
 use Rattle.plain_close.proofs.Waking.{falls-then, wakes-then}
 use Rattle.plain_close.proofs.turns.join_two.Goals as goal
 
@@ -21,7 +26,7 @@ join_unknown-pin-requires-clause-no_later c =
 
 pub join_unknown-pin-requires-clause-known : goal.join_unknown-pin-requires-clause-known
 join_unknown-pin-requires-clause-known c =
-    in-block c.args.p.now c.args.planes.now c.join_unknown-target.new.planes c.args.forced.now.in_chunks c.args.forced.now.known 1 nowhere c.requires.known (search rules) (λ bit i h. c.join_unknown-target.ensures.wakes.bits (block_in c.args.p.now (get_or c.args.forced.now.in_chunks 1 nowhere)) bit i h)
+    seen-in-block c.args.p.now c.args.planes.now c.join_unknown-target.new.planes c.args.forced.now.in_chunks c.args.forced.now.known 1 nowhere c.requires.known (search rules) (λ bit i h. c.join_unknown-target.ensures.wakes.bits (block_in c.args.p.now (get_or c.args.forced.now.in_chunks 1 nowhere)) bit i h)
 
 pub returns : goal.returns
 returns c =
@@ -29,7 +34,17 @@ returns c =
     joins-at c.args.p.now c.args.forced.now.in_chunks c.args.forced.now.out 0 nowhere c.args.planes.now c.args.planes.now c.join_unknown-target.new.planes (search rules) (joins-none (map (block_in c.args.p.now) c.args.forced.now.in_chunks) c.args.forced.now.out c.args.planes.now) c.join_unknown-target.ensures.joins in
     let both : JoinsFirst (map (block_in c.args.p.now) c.args.forced.now.in_chunks) c.args.forced.now.out 2 c.args.planes.now c.join_unknown-pin.new.planes =
     joins-at c.args.p.now c.args.forced.now.in_chunks c.args.forced.now.out 1 nowhere c.args.planes.now c.join_unknown-target.new.planes c.join_unknown-pin.new.planes (search rules) first c.join_unknown-pin.ensures.joins in
-    turn-came c.args.p.now c.args.task c.requires.task.early c.args.planes.now c.join_unknown-pin.new.planes c.args.forced.now.in_chunks c.args.forced.now.out c.requires.forced (subst (λ n. JoinsFirst (map (block_in c.args.p.now) c.args.forced.now.in_chunks) c.args.forced.now.out n c.args.planes.now c.join_unknown-pin.new.planes) (search rules) both)
-    c.args.worklist.now c.join_unknown-pin.new.worklist (wakes-then c.args.p.now c.args.planes.now c.join_unknown-target.new.planes c.join_unknown-pin.new.planes c.args.worklist.now c.join_unknown-target.new.worklist c.join_unknown-pin.new.worklist c.join_unknown-target.ensures.wakes c.join_unknown-pin.ensures.wakes)
-    _ _ c.requires.other_pin (falls-then c.args.p.now c.join_unknown-target.result c.join_unknown-pin.result c.args.planes.now c.join_unknown-target.new.planes c.join_unknown-pin.new.planes c.args.worklist.now c.join_unknown-target.new.worklist c.join_unknown-pin.new.worklist c.join_unknown-target.ensures.falls c.join_unknown-pin.ensures.falls)
-    c.outcome.result c.outcome.ensures
+    let joined : JoinsFirst (map (block_in c.args.p.now) c.args.forced.now.in_chunks) c.args.forced.now.out (length c.args.forced.now.in_chunks) c.args.planes.now c.join_unknown-pin.new.planes = subst (λ n. JoinsFirst (map (block_in c.args.p.now) c.args.forced.now.in_chunks) c.args.forced.now.out n c.args.planes.now c.join_unknown-pin.new.planes) (search rules) both in
+    let wakes : Wakes c.args.p.now c.args.planes.now c.join_unknown-pin.new.planes c.args.worklist.now c.join_unknown-pin.new.worklist = wakes-then c.args.p.now c.args.planes.now c.join_unknown-target.new.planes c.join_unknown-pin.new.planes c.args.worklist.now c.join_unknown-target.new.worklist c.join_unknown-pin.new.worklist c.join_unknown-target.ensures.wakes c.join_unknown-pin.ensures.wakes in
+    let kept : (b : Block) (bit : Bool) (i : ℕ) → has_bit c.args.planes.now b bit i ≡ true → has_bit c.join_unknown-pin.new.planes b bit i ≡ true = wakes.bits in
+    turn-calm c.args.p.now c.args.task c.requires.task.early c.args.planes.now c.join_unknown-pin.new.planes c.args.forced.now.in_chunks c.args.forced.now.out c.requires.forced joined
+    c.args.worklist.now c.join_unknown-pin.new.worklist wakes
+    (c.join_unknown-pin.result || c.join_unknown-target.result) (c.have_both.result || c.have_both-2.result) c.adding.result (falls-then c.args.p.now c.join_unknown-target.result c.join_unknown-pin.result c.args.planes.now c.join_unknown-target.new.planes c.join_unknown-pin.new.planes c.args.worklist.now c.join_unknown-target.new.worklist c.join_unknown-pin.new.worklist c.join_unknown-target.ensures.falls c.join_unknown-pin.ensures.falls)
+    c.adding.ensures.added c.adding.ensures.clash c.adding.ensures.again c.adding.ensures.nothing
+    (λ none. calm-task c.args.p.now c.args.task c.requires.task.early c.args.planes.now c.args.forced.now.in_chunks c.args.forced.now.out c.requires.forced (sym c.requires.other_pin)
+    (no_clash-by c.args.p.now c.args.planes.now c.args.forced.now.in_chunks c.args.forced.now.known c.args.forced.now.out c.requires.known
+    (λ j within. each-of-two (λ j. (i : ℕ) → i < 64 → HasEach (words_at_place c.args.forced.now.known j) (words_at_place c.args.forced.now.out j) i → ⊥) (c.have_both.ensures.none (neither c.have_both.result c.have_both-2.result none).0) (c.have_both-2.ensures.none (neither c.have_both.result c.have_both-2.result none).1) j (subst (λ n. j < n) (search rules) within))))
+    (λ some. elim (or_cases c.have_both.result c.have_both-2.result some) [
+      | inl target ↦ clash-by c.args.p.now c.args.planes.now c.join_unknown-pin.new.planes c.args.forced.now.in_chunks c.args.forced.now.known c.args.forced.now.out c.requires.known c.requires.forced.inside c.join_unknown-pin.ensures.wakes.of kept joined 0 (search rules) (c.have_both.ensures.some target)
+      | inr pin ↦ clash-by c.args.p.now c.args.planes.now c.join_unknown-pin.new.planes c.args.forced.now.in_chunks c.args.forced.now.known c.args.forced.now.out c.requires.known c.requires.forced.inside c.join_unknown-pin.ensures.wakes.of kept joined 1 (search rules) (c.have_both-2.ensures.some pin)
+    ])
