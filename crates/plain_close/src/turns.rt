@@ -1,5 +1,5 @@
 //! Turns of tasks: what a task forces is added, and the tasks about it wait again.
-ghost use Rattle.std.specs.Prelude.{ℕ, ◌≡◌, ◌<◌, ◌≤◌, ◌⊎◌, length, map, IfOk, OnOk, IsFalse, IsTrue, All, false};
+ghost use Rattle.std.specs.Prelude.{ℕ, ◌≡◌, ◌≢◌, ◌<◌, ◌≤◌, ◌⊎◌, length, map, IfOk, OnOk, IsFalse, IsTrue, All, false};
 ghost use Rattle.sr_model.specs.declared.cells.Sig.{Sig as AnySig};
 ghost use Rattle.sr_model.specs.declared.cells.Cell.{Cell as AnyCell};
 ghost use Rattle.sr_model.specs.Limits.{max_gate_signals};
@@ -38,7 +38,7 @@ pub(crate) fn turn_all(
     ensures of { OnOk result (IsOf p.now planes.new) }
     ensures closure { OnOk result (SameLits (lits p.now planes.new) (Closure (unrolled p.now) (lits p.now planes.old))) }
 {
-    while turn_to_next(p, planes, worklist, buffers)?.added {}
+    while turn_to_next(p, planes, worklist, buffers)?.has_added() {}
     Ok(())
 }
 
@@ -63,13 +63,13 @@ pub(crate) fn turn_until_clash(
     Ok(())
 }
 
-/// Takes turns until one adds something, and answers how that went. If none does, no task waits.
+/// Takes turns until one adds something, and answers what came of it. If none does, no task waits.
 fn turn_to_next(
     p: &Problem,
     planes: &mut Planes,
     worklist: &mut Worklist,
     buffers: &mut Buffers,
-) -> Result<Turned, NoMemory>
+) -> Result<Progress, NoMemory>
     requires problem { IsProblem p.now }
     requires of { IsOf p.now planes.old }
     requires worklist { IsWorklistOf p.now worklist.old }
@@ -77,18 +77,18 @@ fn turn_to_next(
     requires room { max_gate_signals ≤ buffers.old.blocks.room }
     ensures room { buffers.old.blocks.room ≤ buffers.new.blocks.room }
     ensures between { OnOk result (Between p.now planes.old planes.new worklist.new) }
-    ensures fewer { IfOk result (λ turned. IsTrue turned.added → missing_of p.now planes.new < missing_of p.now planes.old) }
-    ensures closed { IfOk result (λ turned. IsFalse turned.added → IsClosed (unrolled p.now) (lits p.now planes.new)) }
-    ensures clash { IfOk result (λ turned. IsTrue turned.clash → (c : AnyCell) × HasBoth (lits p.now planes.new) c) }
+    ensures fewer { IfOk result (λ progress. progress ≢ Progress.Nothing → missing_of p.now planes.new < missing_of p.now planes.old) }
+    ensures closed { IfOk result (λ progress. progress ≡ Progress.Nothing → IsClosed (unrolled p.now) (lits p.now planes.new)) }
+    ensures clash { IfOk result (λ progress. progress ≡ Progress.Clash → (c : AnyCell) × HasBoth (lits p.now planes.new) c) }
 {
     while let Some(task) = worklist.waiting.next() {
         let turned = turn(p, task, planes, worklist, buffers)?;
         take_turned(worklist, task, turned.again);
         if turned.added {
-            return Ok(turned);
+            return Ok(turned.progress());
         }
     }
-    Ok(Turned::nothing())
+    Ok(Progress::Nothing)
 }
 
 /// Takes a task that has had its turn, unless it is to have another one.
@@ -144,13 +144,51 @@ impl Turned {
         }
     }
 
-    /// Whether something was added, and no cell of the task's blocks has both literals.
+    /// What it is told as, where something was added.
+    #[inline]
+    fn progress(self) -> Progress
+        requires { IsTrue self.added }
+        ensures some { result ≢ Progress.Nothing }
+        ensures clash { result ≡ Progress.Clash → IsTrue self.clash }
+    {
+        if self.clash {
+            Progress::Clash
+        } else {
+            Progress::Added
+        }
+    }
+}
+
+/// What came of turns: the last one added something, and perhaps a cell has both literals then; or none did.
+#[derive(Clone, Copy)]
+enum Progress {
+    Nothing,
+    Added,
+    Clash,
+}
+
+impl Progress {
+    #[inline]
+    fn has_added(self) -> bool
+        ensures yes { IsTrue result → self ≢ Progress.Nothing }
+        ensures no { IsFalse result → self ≡ Progress.Nothing }
+    {
+        match self {
+            Progress::Nothing => false,
+            Progress::Added | Progress::Clash => true,
+        }
+    }
+
+    /// Whether something was added, and no cell has both literals.
     #[inline]
     fn goes_on(self) -> bool
-        ensures yes { IsTrue result → IsTrue self.added }
-        ensures no { IsFalse result → IsFalse self.added ⊎ IsTrue self.clash }
+        ensures yes { IsTrue result → self ≢ Progress.Nothing }
+        ensures no { IsFalse result → (self ≡ Progress.Nothing) ⊎ (self ≡ Progress.Clash) }
     {
-        self.added && !self.clash
+        match self {
+            Progress::Added => true,
+            Progress::Nothing | Progress::Clash => false,
+        }
     }
 }
 

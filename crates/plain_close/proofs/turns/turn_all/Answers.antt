@@ -15,4 +15,4 @@ pub returns-clause-closure : goal.returns-clause-closure
 returns-clause-closure c =
     closure-is c.args.p.now c.args.planes.now c.turn_to_next.new.planes c.turn_to_next.new.worklist
     (between-then c.args.p.now c.args.planes.now c.loop.planes c.turn_to_next.new.planes c.loop.worklist c.turn_to_next.new.worklist c.loop.invariant.0 c.in_ok-turn_to_next.ensures.between)
-    (c.in_ok-turn_to_next.ensures.closed c.if-branch.false)
+    (c.in_ok-turn_to_next.ensures.closed (c.has_added.ensures.no c.if-has_added.false))
