@@ -242,7 +242,7 @@ fn the_longest_netlist_of_empty_lines(rt: HostRuntime) -> Result<(), Fail> {
 fn reprinted(rt: &impl Abort, alloc: Global, text: &[u8]) -> Result<Bytes, Fail> {
     let statements = read_bench(alloc, text)?;
     assert!(rt; are_statements(&statements));
-    let netlist = build(alloc, &statements)?;
+    let netlist = build(alloc, statements)?;
     Ok(print_bench(alloc, &netlist)?)
 }
 

@@ -38,7 +38,7 @@ fn shift_register(rt: &impl Abort, alloc: Global) -> Result<Netlist, Fail> {
         all.push(Numbered { line: 2, statement })?;
     }
     assert!(rt; are_statements(&all));
-    Ok(build(alloc, &all)?)
+    Ok(build(alloc, all)?)
 }
 
 #[test]

@@ -15,7 +15,7 @@ fn netlist(rt: &impl Abort, alloc: Global, names: &[&[u8]]) -> Result<Netlist, F
         push_input(alloc, &mut statements, name)?;
     }
     assert!(rt; are_statements(&statements));
-    Ok(build(alloc, &statements)?)
+    Ok(build(alloc, statements)?)
 }
 
 fn push_input(alloc: Global, statements: &mut Statements, name: &[u8]) -> Result<(), Fail> {

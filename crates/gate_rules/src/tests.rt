@@ -40,5 +40,5 @@ fn net_of(
         })?;
     }
     assert!(rt; are_statements(&statements));
-    Ok(build(alloc, &statements)?)
+    Ok(build(alloc, statements)?)
 }

@@ -35,7 +35,7 @@ fn small(rt: &impl Abort, alloc: Global) -> Result<Netlist, Fail> {
     let statement = Statement::Input(to_bytes(alloc, b"a")?);
     all.push(Numbered { line: 3, statement })?;
     assert!(rt; are_statements(&all));
-    Ok(build(alloc, &all)?)
+    Ok(build(alloc, all)?)
 }
 
 /// The words without bits of cycles that are not there.

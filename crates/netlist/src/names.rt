@@ -30,12 +30,13 @@ impl Model for NameTable {
 }
 
 impl NameTable {
-    /// No names. It takes no memory.
-    pub(crate) fn new(alloc: Global) -> NameTable
-        ensures { result ≡ [] }
+    /// No names, with room for so many.
+    pub(crate) fn with_room(alloc: Global, room: usize) -> Result<NameTable, NoMemory>
+        ensures { IfOk result (λ table. table ≡ []) }
     {
-        NameTable {
-            names: IndexSet::new(alloc),
+        match IndexSet::with_capacity(alloc, room) {
+            Ok(names) => Ok(NameTable { names }),
+            Err(AllocError) => Err(NoMemory),
         }
     }
 

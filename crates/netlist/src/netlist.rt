@@ -43,13 +43,14 @@ impl Model for Netlist {
 
 /// The netlist of the statements of a text, or why they are none.
 ///
-/// The refusals are tried in the order of `NetRefusal`, each over all statements. Time and memory are linear in the statements, their pins and the
-/// bytes of their names. Names that were made to collide in a hash table take longer: up to the square of their number.
-pub fn build(alloc: Global, s: &Statements) -> Result<Netlist, NetRefusal>
-    requires { All IsStatement (declared s.now) }
-    ensures netlist { OnOk result (IsNetlist (declared s.now)) }
-    ensures circuit { IfOk result (λ n. n ≡ circuit_of (declared s.now)) }
-    ensures refusal { IfErr result (IsRefusal (declarations_of s.now)) }
+/// The refusals are tried in the order of `NetRefusal`, each over all statements, whose memory is given back as soon as no rule looks at them any more.
+/// Time and memory are linear in the statements, their pins and the bytes of their names. Names that were made to collide in a hash table take longer:
+/// up to the square of their number.
+pub fn build(alloc: Global, s: Statements) -> Result<Netlist, NetRefusal>
+    requires { All IsStatement (declared s) }
+    ensures netlist { OnOk result (IsNetlist (declared s)) }
+    ensures circuit { IfOk result (λ n. n ≡ circuit_of (declared s)) }
+    ensures refusal { IfErr result (IsRefusal (declarations_of s)) }
 {
     let numbering = number(alloc, s)?;
     let wiring = Wiring::new(alloc, numbering.nodes, numbering.pins)?;

@@ -62,7 +62,7 @@ fn number_names(alloc: Global, s: &Statements) -> Result<Mentions, NetRefusal>
     ensures few { OnOk result (HasFewSignals (declared s.now)) }
     ensures refused { IfErr result (IsRefusal (declarations_of s.now)) }
 {
-    let mut names = NameTable::new(alloc);
+    let mut names = NameTable::with_room(alloc, s.len().min(MAX_SIGNALS))?;
     let mut firsts = Sigs::with_room(alloc, s.len())?;
     let mut pins = Sigs::with_room(alloc, pin_room(s))?;
     for stated in s.as_slice() {
@@ -238,26 +238,28 @@ fn number_outputs(
 
 /// Numbers the names of a text by their first mentions, and finds what drives each signal.
 ///
-/// The rules are tried one after the other, each over all statements. It looks up each mention once, and a new name once more to put it in; it
-/// takes memory for a new name alone, and four bytes a mention. The time is linear in the bytes of the text, unless names were made to collide.
-pub(crate) fn number(alloc: Global, s: &Statements) -> Result<Numbering, NetRefusal>
-    requires { All HasPinCount (declared s.now) }
-    ensures accepted { OnOk result (IsAccepted (declared s.now)) }
-    ensures names { IfOk result (λ n. n.names ≡ names_of (declared s.now)) }
-    ensures drivers { IfOk result (λ n. drivers_from n.pins.items n.nodes.items ≡ drivers_of (declared s.now)) }
-    ensures inputs { IfOk result (λ n. n.inputs.items ≡ inputs_of (declared s.now)) }
-    ensures outputs { IfOk result (λ n. n.outputs.items ≡ outputs_of (declared s.now)) }
+/// The rules are tried one after the other, each over all statements. It looks up each mention once, and a new name once more to put it in. It takes
+/// room for as many names as there are statements, memory for a new name's bytes, and four bytes a mention. The statements are given back before the
+/// last rule is tried. The time is linear in the bytes of the text, unless names were made to collide.
+pub(crate) fn number(alloc: Global, s: Statements) -> Result<Numbering, NetRefusal>
+    requires { All HasPinCount (declared s) }
+    ensures accepted { OnOk result (IsAccepted (declared s)) }
+    ensures names { IfOk result (λ n. n.names ≡ names_of (declared s)) }
+    ensures drivers { IfOk result (λ n. drivers_from n.pins.items n.nodes.items ≡ drivers_of (declared s)) }
+    ensures inputs { IfOk result (λ n. n.inputs.items ≡ inputs_of (declared s)) }
+    ensures outputs { IfOk result (λ n. n.outputs.items ≡ outputs_of (declared s)) }
     ensures signals { IfOk result (λ n. (length n.nodes.items ≡ length n.names) × (length n.names ≤ max_signals)) }
     ensures pins { IfOk result (λ n. (length n.pins.items ≤ max_pins) × All (λ pin. pin.0 < length n.names) n.pins.items) }
     ensures nodes { IfOk result (λ n. All (IsNodeWithin (length n.pins.items)) n.nodes.items) }
-    ensures refused { IfErr result (IsRefusal (declarations_of s.now)) }
+    ensures refused { IfErr result (IsRefusal (declarations_of s)) }
 {
-    let mentions = number_names(alloc, s)?;
-    check_pins(s)?;
-    let driven = drive(alloc, &mentions.names, &mentions.firsts, s)?;
+    let mentions = number_names(alloc, &s)?;
+    check_pins(&s)?;
+    let driven = drive(alloc, &mentions.names, &mentions.firsts, &s)?;
+    let inputs = number_inputs(alloc, &mentions.firsts, &s)?.into_vec();
+    let outputs = number_outputs(alloc, &mentions.names, &mentions.firsts, &s)?.into_vec();
+    drop(s);
     let nodes = settle(alloc, &mentions.names, driven.as_slice())?.into_vec();
-    let inputs = number_inputs(alloc, &mentions.firsts, s)?.into_vec();
-    let outputs = number_outputs(alloc, &mentions.names, &mentions.firsts, s)?.into_vec();
     Ok(Numbering {
         names: mentions.names,
         nodes,

@@ -51,14 +51,14 @@ fn statements_of(alloc: Global, rows: &[Row<'_>]) -> Result<Statements, NoMemory
     Ok(statements)
 }
 
-fn built(rt: &impl Abort, alloc: Global, statements: &Statements) -> Result<Netlist, NetRefusal> {
-    let fit = are_statements(statements);
+fn built(rt: &impl Abort, alloc: Global, statements: Statements) -> Result<Netlist, NetRefusal> {
+    let fit = are_statements(&statements);
     assert!(rt; fit, "a text can have these statements");
     build(alloc, statements)
 }
 
 /// What the statements come to, in short.
-fn told(rt: &impl Abort, alloc: Global, statements: &Statements) -> Result<Vec<u8>, Fail> {
+fn told(rt: &impl Abort, alloc: Global, statements: Statements) -> Result<Vec<u8>, Fail> {
     let found = built(rt, alloc, statements);
     text_of(alloc, &found)
 }

@@ -35,7 +35,7 @@ struct Case<'a> {
 
 fn netlist(alloc: Global, text: &[u8]) -> Result<Netlist, Fail> {
     let statements = read_bench(alloc, text)?;
-    Ok(build(alloc, &statements)?)
+    Ok(build(alloc, statements)?)
 }
 
 fn expect(rt: &impl Abort, alloc: Global, net: &Netlist, case: &Case) -> Result<(), Fail> {

@@ -77,7 +77,7 @@ fn drawn_netlist(alloc: Global, number: u64, signals: u32) -> Result<Netlist, No
     ensures flip_flops { IfOk result (λ n. length (flip_flops n.drivers) ≡ signals / 8) }
 {
     let statements = load_netlist(alloc, number, signals)?;
-    match build(alloc, &statements) {
+    match build(alloc, statements) {
         Ok(n) => Ok(n),
         Err(NetRefusal::NoMemory) => Err(NoMemory),
         Err(_) => unreachable!(),

@@ -80,7 +80,7 @@ fn parse_netlist(alloc: Global, text: Bytes) -> Result<Netlist, Reply>
             });
         }
     };
-    match build(alloc, &statements) {
+    match build(alloc, statements) {
         Ok(netlist) => Ok(netlist),
         Err(refusal) => Err(Reply::Refused {
             refusal: Refusal::Net(refusal),

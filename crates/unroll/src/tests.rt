@@ -24,5 +24,5 @@ fn built(rt: &impl Abort, alloc: Global, rows: [Statement; 6]) -> Result<Netlist
         statements.push(Numbered { line: 1, statement })?;
     }
     assert!(rt; are_statements(&statements));
-    Ok(build(alloc, &statements)?)
+    Ok(build(alloc, statements)?)
 }

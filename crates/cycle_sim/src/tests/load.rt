@@ -79,7 +79,7 @@ fn loaded(alloc: Global, number: u64, signals: u32) -> Result<Netlist, NoMemory>
     ensures flip_flops { IfOk result (λ n. length (flip_flops n.drivers) ≡ signals / 8) }
 {
     let statements = load_netlist(alloc, number, signals)?;
-    match build(alloc, &statements) {
+    match build(alloc, statements) {
         Ok(netlist) => Ok(netlist),
         Err(NetRefusal::NoMemory) => Err(NoMemory),
         Err(_) => unreachable!(),

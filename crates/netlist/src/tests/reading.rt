@@ -27,7 +27,7 @@ struct Case<'test> {
 
 fn expect_case(rt: &impl Abort, alloc: Global, case: &Case<'_>) -> Result<(), Fail> {
     let statements = statements_of(alloc, case.rows)?;
-    let netlist = built(rt, alloc, &statements)?;
+    let netlist = built(rt, alloc, statements)?;
     assert!(rt; case.signals.len() == netlist.signals() as usize);
     for (number, (name, kind, pins, readers, signals)) in case.signals.iter().enumerate() {
         let sig = Sig(number as u32);
@@ -169,7 +169,7 @@ fn other_readers_and_parities(rt: HostRuntime) -> Result<(), Fail> {
         (&[], &[Sig(4), Sig(6)], &[true, false], &[0]),
     ];
     let statements = statements_of(rt.alloc(), &rows)?;
-    let netlist = built(&rt, rt.alloc(), &statements)?;
+    let netlist = built(&rt, rt.alloc(), statements)?;
     assert!(rt; netlist.signals() == 7);
     for (number, (others, signals, parities, places)) in cases.iter().enumerate() {
         let sig = Sig(number as u32);

@@ -72,7 +72,7 @@ fn causes_in_their_order(rt: HostRuntime) -> Result<(), Fail> {
     ];
     for (rows, answer) in cases {
         let statements = statements_of(rt.alloc(), rows)?;
-        assert_eq!(rt; told(&rt, rt.alloc(), &statements)?.as_slice(), answer);
+        assert_eq!(rt; told(&rt, rt.alloc(), statements)?.as_slice(), answer);
     }
     numbering_laws();
     refusal_laws();
@@ -134,7 +134,7 @@ fn loops_by_name(rt: HostRuntime) -> Result<(), Fail> {
     ];
     for (rows, answer) in cases {
         let statements = statements_of(rt.alloc(), rows)?;
-        assert_eq!(rt; told(&rt, rt.alloc(), &statements)?.as_slice(), answer);
+        assert_eq!(rt; told(&rt, rt.alloc(), statements)?.as_slice(), answer);
     }
     Ok(())
 }

@@ -9,5 +9,5 @@ pub returns-in-Ok-build-clause-netlist : goal.returns-in-Ok-build-clause-netlist
 returns-in-Ok-build-clause-netlist c =
     netlist_text c.args.text.items c.in-Ok.statements c.in-Ok-build.netlist c.requires.short c.in-Ok.ensures.statements c.in-Ok-build.ensures.netlist c.in-Ok-build.ensures.circuit
 
-pub returns-clause-refused : goal.returns-clause-refused
-returns-clause-refused c words = bad_net words c.args.text.items (declarations_of c.in-Ok.statements) c.in-Err-build.refusal c.requires.short c.in-Ok.ensures.statements c.in-Err-build.ensures.refusal
+pub returns-in-Err-build-clause-refused : goal.returns-in-Err-build-clause-refused
+returns-in-Err-build-clause-refused c words = bad_net words c.args.text.items (declarations_of c.in-Ok.statements) c.in-Err-build.refusal c.requires.short c.in-Ok.ensures.statements c.in-Err-build.ensures.refusal
