@@ -1,8 +1,9 @@
 -- The tasks that wait, after one word of their bits is replaced.
-use Rattle.std.proofs.Common.{ℕ, suc, pow-suc, ◌≡◌, ◌-◌, ◌+◌, ◌*◌, ◌/◌, ◌%◌, ◌<◌, ◌≤◌, ◌^◌, ◌⊎◌, ◌&&◌, Bool, true, false, not, List, [], ◌∷◌, ◌++◌, length, length-set, get_or, set, sum, replicate, arith, inl, inr, sym, ap, subst, bit_and, bit_or, refl, eqb, ◌∙◌}
+use Rattle.std.proofs.Common.{ℕ, suc, pow-suc, ◌≡◌, ◌-◌, ◌+◌, ◌*◌, ◌/◌, ◌%◌, ◌<◌, ◌≤◌, ◌^◌, ◌⊎◌, ◌&&◌, Bool, true, false, not, List, [], ◌∷◌, ◌++◌, length, length-set, get_or, set, sum, replicate, arith, inl, inr, sym, ap, subst, bit_and, bit_or, bit_xor, refl, eqb, ltb, ◌∙◌}
+use Rattle.std.specs.Bool.{beq}
 use Rattle.std.specs.Int.{bit_not, w64, bit_at, trailing_zeros, leading_zeros}
 use Rattle.std.proofs.Math.Pow.{pow-lt}
-use Rattle.std.proofs.lemmas.Bool.{cases_Bool, cases_eq, cases_lt, true≢false, or_cases, or_left, or_right, and_from, and_parts}
+use Rattle.std.proofs.lemmas.Bool.{cases_Bool, cases_eq, cases_lt, true≢false, lt-ltb, le-ltb, ltb-true, ltb-false, eqb-true, eqb-false, not-true, not-false, or_cases, or_left, or_right, and_from, and_parts}
 use Rattle.std.proofs.lemmas.Nat.{same_from_place, mul-add-lt, and_le_l, div-add-mod', leading_top}
 use Rattle.std.proofs.lemmas.Nat.Bits.{bit_at-trailing_zeros, bit_at_cat_high, bit_at-pow_same}
 use Rattle.std.proofs.lemmas.List.{get_or-set_same, get_or-set_other, get_or-replicate, get_or_default, length-replicate}
@@ -13,9 +14,10 @@ use Rattle.sr_model.proofs.lemmas.Members.{Contains-cases, Contains-here, not_in
 use Rattle.std.specs.List.{Contains}
 use Rattle.sr_model.specs.declared.cells.Sig.{Sig}
 use Rattle.sr_model.specs.Limits.{max_signals}
+use Rattle.sr_model.specs.XorLike.{plus}
 use Rattle.unroll.specs.Bits.{is_set}
-use Rattle.unroll.specs.Waiting.{Waiting, Waits, Adds, AddsBut, IsFirstRow, IsNextFrom, IsIdle, IsKept, row_length, row_word, with_word, waiting_measure}
-use Rattle.unroll.proofs.WordBits.{is_set_and, is_set_or, is_set_not, is_set_shl_high, is_set_shl_low, is_set_zero}
+use Rattle.unroll.specs.Waiting.{Waiting, Waits, Adds, AddsBut, IsFirstRow, IsNextFrom, IsIdle, IsKept, mark_length, mark_word, row_has_task, row_length, row_word, with_word, waiting_measure}
+use Rattle.unroll.proofs.WordBits.{is_set_and, is_set_or, is_set_xor, is_set_not, is_set_shl_high, is_set_shl_low, is_set_zero}
 use Rattle.unroll.proofs.Masks.{all-set, alone-set, alone-only}
 
 pub row-within : (q : Waiting) (s : Sig) → s.0 < q.signals → s.0 / 64 < row_length q.signals
@@ -133,15 +135,6 @@ adds-more targets s chunk q x y first then = record {
   ];
 }
 
-pub adds-none : (chunk : ℕ) (q : Waiting) → Adds [] chunk q q
-adds-none chunk q = record {
-  signals = refl;
-  chunks = refl;
-  wait = λ t h. absurd (not_in_nil t h);
-  kept = λ t c h. h;
-  only = λ t c h. inl h;
-}
-
 -- the same without the task of one signal
 pub but-more : (targets : List Sig) (but s : Sig) (chunk : ℕ) (q x y : Waiting) → AddsBut targets but chunk q x → (s ≡ but → ⊥) → Adds (s ∷ []) chunk x y → AddsBut (targets ++ s ∷ []) but chunk q y
 but-more targets but s chunk q x y first other then = record {
@@ -184,15 +177,6 @@ but-same targets but s chunk q x first same = record {
     | inl before ↦ inl before
     | inr (among, apart, early) ↦ inr (Contains-append_left targets (s ∷ []) t among, apart, early)
   ];
-}
-
-pub but-none : (but : Sig) (chunk : ℕ) (q : Waiting) → AddsBut [] but chunk q q
-but-none but chunk q = record {
-  signals = refl;
-  chunks = refl;
-  wait = λ t h apart. absurd (not_in_nil t h);
-  kept = λ t c h. h;
-  only = λ t c h. inl h;
 }
 
 -- one less
@@ -269,15 +253,6 @@ module _ (q : Waiting) (chunk : ℕ) (s : Sig) (old : ℕ) (was : old ≡ row_wo
               | inr g ↦ absurd (other (omega (arith, h, g)))
             ]
           ]
-
--- the signal of a bit of a word
-pub stop-waits : (q : Waiting) (chunk r i : ℕ) (s : Sig) → s.0 ≡ r * 64 + i → i < 64 → chunk < q.chunks → s.0 < q.signals → is_set (row_word q.signals q.words chunk r) i ≡ true → Waits q s chunk
-stop-waits q chunk r i s is small early signal set = record {
-  signal = signal;
-  early = early;
-  set = ap (λ k. is_set (row_word q.signals q.words chunk k) (s.0 % 64)) (let e : s.0 / 64 ≡ r = omega (arith, is, small) in e)
-      ∙ ap (is_set (row_word q.signals q.words chunk r)) (let e : s.0 % 64 ≡ i = omega (arith, is, small) in e) ∙ set;
-}
 
 -- where no word of a chunk has a bit, none waits there
 pub idle-where : (q : Waiting) (chunk : ℕ) → ((r : ℕ) → r < row_length q.signals → row_word q.signals q.words chunk r ≡ 0) → IsIdle q chunk
@@ -386,112 +361,236 @@ highest-set n some small =
     let place : 63 - leading_zeros w64 n ≡ top.0 = omega (arith, top.1) in
     ap (is_set n) place ∙ top-bit n top.0 top.2 top.3
 
+-- ---- the marks of words
+
+-- where the word has a mark, it has a task, and is one of the chunk
+pub marked : (signals : ℕ) (words : List ℕ) (chunk r : ℕ) → row_has_task signals words chunk r ≡ true → (r < row_length signals) × (row_word signals words chunk r ≡ 0 → ⊥)
+marked signals words chunk r h =
+    let both = and_parts (ltb r (row_length signals)) (not (eqb (row_word signals words chunk r) 0)) h in (
+      ltb-true r (row_length signals) both.0,
+      eqb-false (row_word signals words chunk r) 0 (not-true (eqb (row_word signals words chunk r) 0) both.1),
+    )
+
+-- where it has none, the word is 0
+pub unmarked : (signals : ℕ) (words : List ℕ) (chunk r : ℕ) → r < row_length signals → row_has_task signals words chunk r ≡ false → row_word signals words chunk r ≡ 0
+unmarked signals words chunk r row h =
+    eqb-true (row_word signals words chunk r) 0 (not-false (eqb (row_word signals words chunk r) 0)
+    (sym (ap (λ b. b && not (eqb (row_word signals words chunk r) 0)) (lt-ltb r (row_length signals) row)) ∙ h))
+
+-- the marks of a group of words, without those that are masked out
+module _ (q : Waiting) (chunk g marks mask : ℕ) (is : (i : ℕ) → i < 64 → is_set marks i ≡ row_has_task q.signals q.words chunk (g * 64 + i)) where
+  pub masked : (i : ℕ) → i < 64 → is_set (bit_and marks mask) i ≡ true → (g * 64 + i < row_length q.signals) × (row_word q.signals q.words chunk (g * 64 + i) ≡ 0 → ⊥)
+  masked i small h =
+      marked q.signals q.words chunk (g * 64 + i) (sym (is i small) ∙ (and_parts (is_set marks i) (is_set mask i) (sym (is_set_and marks mask i) ∙ h)).0)
+
+  module _ (from low : ℕ) (fits : low < 2 ^ 64) (below : (i : ℕ) → i < 64 → is_set low i ≡ ltb i (from - g * 64)) (ahead : mask ≡ bit_not w64 low) where
+    ahead-set : (i : ℕ) → i < 64 → is_set mask i ≡ not (ltb i (from - g * 64))
+    ahead-set i small = ap (λ n. is_set n i) ahead ∙ is_set_not low i fits small ∙ ap not (below i small)
+
+    -- a word whose mark is not set is 0
+    pub ahead-none : (r : ℕ) → from ≤ r → g * 64 ≤ r → r < g * 64 + 64 → r < row_length q.signals → is_set (bit_and marks mask) (r - g * 64) ≡ false → row_word q.signals q.words chunk r ≡ 0
+    ahead-none r late first last row h =
+        let small : r - g * 64 < 64 = omega (arith, first, last) in
+        let place : g * 64 + (r - g * 64) ≡ r = omega (arith, first) in
+        let kept : is_set mask (r - g * 64) ≡ true = ahead-set (r - g * 64) small ∙ ap not (le-ltb (r - g * 64) (from - g * 64) (omega (arith, late))) in
+        unmarked q.signals q.words chunk r row
+        (ap (row_has_task q.signals q.words chunk) (sym place) ∙ sym (is (r - g * 64) small) ∙ and-false (is_set marks (r - g * 64)) (is_set mask (r - g * 64)) kept (sym (is_set_and marks mask (r - g * 64)) ∙ h))
+      where
+        and-false : (a b : Bool) → b ≡ true → (a && b) ≡ false → a ≡ false
+        and-false true b e h = absurd (true≢false (sym e ∙ h))
+        and-false false b e h = refl
+
+    pub first-marked : (i : ℕ) → ((r : ℕ) → from ≤ r → r < g * 64 → r < row_length q.signals → row_word q.signals q.words chunk r ≡ 0)
+        → i < 64 → is_set (bit_and marks mask) i ≡ true → ((k : ℕ) → k < i → is_set (bit_and marks mask) k ≡ false) → IsFirstRow q chunk from (g * 64 + i)
+    first-marked i before small h lowest =
+        let there = masked i small h in
+        let high : from - g * 64 ≤ i =
+        ltb-false i (from - g * 64) (not-true (ltb i (from - g * 64)) (sym (ahead-set i small) ∙ (and_parts (is_set marks i) (is_set mask i) (sym (is_set_and marks mask i) ∙ h)).1)) in
+        record {
+          late = omega (arith, high);
+          within = there.0;
+          some = there.1;
+          first = λ r late early. elim (cases_lt r (g * 64)) [
+            | inl earlier ↦ before r late earlier (omega (arith, early, there.0))
+            | inr here ↦ ahead-none r late here (omega (arith, early, small)) (omega (arith, early, there.0)) (lowest (r - g * 64) (omega (arith, early, here)))
+          ];
+        }
+
+    pub none-marked : ((r : ℕ) → from ≤ r → r < g * 64 → r < row_length q.signals → row_word q.signals q.words chunk r ≡ 0) → bit_and marks mask ≡ 0
+        → (r : ℕ) → from ≤ r → r < (g + 1) * 64 → r < row_length q.signals → row_word q.signals q.words chunk r ≡ 0
+    none-marked before none r late early row =
+        elim (cases_lt r (g * 64)) [
+          | inl earlier ↦ before r late earlier row
+          | inr here ↦ ahead-none r late here (omega (arith, early)) row (ap (λ w. is_set w (r - g * 64)) none ∙ is_set_zero (r - g * 64))
+        ]
+
 -- ---- what is kept
 
-module _ (signals chunks : ℕ) (words : List ℕ) (flags : List Bool) (kept : IsKept signals chunks words flags) (chunk r word : ℕ) (early : chunk < chunks) (row : r < row_length signals) where
-  pub place-within : chunk * row_length signals + r < length words
-  place-within = subst (λ n. chunk * row_length signals + r < n) (swap (row_length signals) chunks ∙ sym kept.size) (mul-add-lt chunk (row_length signals) r chunks early row)
-    where
-      swap : (a b : ℕ) → a * b ≡ b * a
-      swap a b = grind arith
+-- where word i of a chunk lies, if each has so many
+times-within : (chunk chunks width i : ℕ) → chunk < chunks → i < width → chunk * width + i < chunks * width
+times-within chunk chunks width i early row = subst (λ n. chunk * width + i < n) (swap width chunks) (mul-add-lt chunk width i chunks early row) where
+  swap : (a b : ℕ) → a * b ≡ b * a
+  swap a b = grind arith
 
-  -- another word stands there, where the chunk's flag is set
-  pub word-kept : get_or flags chunk true ≡ true → ((i : ℕ) → i < 64 → is_set word i ≡ true → r * 64 + i < signals) → IsKept signals chunks (set words (chunk * row_length signals + r) word) flags
-  word-kept on new = record {
-    few_signals = kept.few_signals;
-    few_chunks = kept.few_chunks;
-    size = length-set words (chunk * row_length signals + r) word ∙ kept.size;
-    flags_size = kept.flags_size;
-    within = λ c k i hc hk hi h. elim (its-word q chunk r word row place-within c k hk) [
-      | inl (same, same_row, is) ↦ subst (λ n. n * 64 + i < signals) (sym same_row) (new i hi (ap (λ w. is_set w i) (sym is) ∙ h))
-      | inr is ↦ kept.within c k i hc hk hi (ap (λ w. is_set w i) (sym is) ∙ h)
-    ];
-    flagged = λ c k hc hk off. elim (its-word q chunk r word row place-within c k hk) [
-      | inl (same, _, _) ↦ absurd (true≢false (sym (ap (λ n. get_or flags n true) same ∙ on) ∙ off))
-      | inr is ↦ is ∙ kept.flagged c k hc hk off
-    ];
-  }
-    where
-      q : Waiting
-      q = record { signals = signals; chunks = chunks; words = words }
+module _ (q : Waiting) (marks : List ℕ) (kept : IsKept q.signals q.chunks q.words marks) (chunk r word : ℕ) (early : chunk < q.chunks) (row : r < row_length q.signals) where
+  place-within : chunk * row_length q.signals + r < length q.words
+  place-within = subst (λ n. chunk * row_length q.signals + r < n) (sym kept.size) (times-within chunk q.chunks (row_length q.signals) r early row)
 
-  pub flag-on : get_or (set flags chunk true) chunk true ≡ true
-  flag-on = get_or-set_same flags chunk true true (subst (λ n. chunk < n) (sym kept.flags_size) early)
+  group : r / 64 < mark_length q.signals
+  group = omega (arith, row)
 
-  -- a chunk's flag may go where the chunk has no task
-  pub idle-kept : ((k : ℕ) → k < row_length signals → row_word signals words chunk k ≡ 0) → IsKept signals chunks words (set flags chunk false)
-  idle-kept none = record {
-    few_signals = kept.few_signals;
-    few_chunks = kept.few_chunks;
-    size = kept.size;
-    flags_size = length-set flags chunk false ∙ kept.flags_size;
-    within = kept.within;
-    flagged = λ c k hc hk off. elim (cases_eq c chunk) [
-      | inl same ↦ ap (λ n. row_word signals words n k) same ∙ none k hk
-      | inr other ↦ kept.flagged c k hc hk (sym (get_or-set_other flags chunk c false true other) ∙ off)
-    ];
-  }
+  pub mark-within : chunk * mark_length q.signals + r / 64 < length marks
+  mark-within = subst (λ n. chunk * mark_length q.signals + r / 64 < n) (sym kept.marks_size) (times-within chunk q.chunks (mark_length q.signals) (r / 64) early group)
 
--- a chunk's flag may be set
-pub flag-kept : (signals chunks : ℕ) (words : List ℕ) (flags : List Bool) → IsKept signals chunks words flags → (chunk : ℕ) → chunk < chunks → IsKept signals chunks words (set flags chunk true)
-flag-kept signals chunks words flags kept chunk early = record {
-  few_signals = kept.few_signals;
-  few_chunks = kept.few_chunks;
-  size = kept.size;
-  flags_size = length-set flags chunk true ∙ kept.flags_size;
-  within = kept.within;
-  flagged = λ c k hc hk off. elim (cases_eq c chunk) [
-    | inl same ↦ absurd (true≢false (sym (ap (λ n. get_or (set flags chunk true) n true) same ∙ flag-on signals chunks words flags kept chunk 0 0 early (omega arith)) ∙ off))
-    | inr other ↦ kept.flagged c k hc hk (sym (get_or-set_other flags chunk c true true other) ∙ off)
-  ];
-}
+  row-is : r / 64 * 64 + r % 64 ≡ r
+  row-is = div-add-mod' r 64
 
-pub put-kept : (signals chunks : ℕ) (words : List ℕ) (flags : List Bool) → IsKept signals chunks words flags → (chunk r word : ℕ) → chunk < chunks → r < row_length signals
-    → ((i : ℕ) → i < 64 → is_set word i ≡ true → r * 64 + i < signals) → IsKept signals chunks (set words (chunk * row_length signals + r) word) (set flags chunk true)
-put-kept signals chunks words flags kept chunk r word early row =
-    word-kept signals chunks words (set flags chunk true) (flag-kept signals chunks words flags kept chunk early) chunk r word early row (flag-on signals chunks words flags kept chunk r word early row)
+  abbrev changed : List ℕ
+  changed = set q.words (chunk * row_length q.signals + r) word
 
--- one more task, where the chunk's flag is set and its words begin here
-pub adds-bit : (before q : Waiting) → q.signals ≡ before.signals → q.chunks ≡ before.chunks → (flags : List Bool) → IsKept q.signals q.chunks q.words flags
-    → (chunk : ℕ) (s : Sig) → chunk < before.chunks → s.0 < before.signals → get_or flags chunk true ≡ true
-    → (start old bit : ℕ) → start ≡ chunk * row_length before.signals + 0 → old ≡ get_or q.words (start + s.0 / 64) old → bit ≡ 2 ^ (s.0 % 64)
-    → Adds (s ∷ []) chunk q (record { signals = q.signals; chunks = q.chunks; words = set q.words (start + s.0 / 64) (bit_or old bit) })
-    × IsKept q.signals q.chunks (set q.words (start + s.0 / 64) (bit_or old bit)) flags
-adds-bit before q same_signals same_chunks flags kept chunk s some few on start old bit begins was alone =
-    let early : chunk < q.chunks = omega (arith, some, same_chunks) in
-    let signal : s.0 < q.signals = omega (arith, few, same_signals) in
-    let at : start + s.0 / 64 ≡ chunk * row_length q.signals + s.0 / 64 =
-    ap (λ n. n + s.0 / 64) (begins ∙ no-more (chunk * row_length before.signals)) ∙ ap (λ n. chunk * row_length n + s.0 / 64) (sym same_signals) in
-    let row : s.0 / 64 < row_length q.signals = row-within q s signal in
-    let within : chunk * row_length q.signals + s.0 / 64 < length q.words = place-within q.signals q.chunks q.words flags kept chunk (s.0 / 64) (bit_or old (2 ^ (s.0 % 64))) early row in
-    let is : old ≡ row_word q.signals q.words chunk (s.0 / 64) =
-    was ∙ ap (λ n. get_or q.words n old) at ∙ get_or_default q.words (chunk * row_length q.signals + s.0 / 64) old 0 within in
-    subst (λ k. Adds (s ∷ []) chunk q (record { signals = q.signals; chunks = q.chunks; words = set q.words (start + s.0 / 64) (bit_or old k) }) × IsKept q.signals q.chunks (set q.words (start + s.0 / 64) (bit_or old k)) flags)
-    (sym alone)
-    (subst (λ n. Adds (s ∷ []) chunk q (record { signals = q.signals; chunks = q.chunks; words = set q.words n (bit_or old (2 ^ (s.0 % 64))) }) × IsKept q.signals q.chunks (set q.words n (bit_or old (2 ^ (s.0 % 64)))) flags)
-    (sym at) (
-      adds q chunk s old is early signal within,
-      word-kept q.signals q.chunks q.words flags kept chunk (s.0 / 64) (bit_or old (2 ^ (s.0 % 64))) early row on
-          (added-bits q chunk s old is early signal within (λ i small h. kept.within chunk (s.0 / 64) i early row small (ap (λ w. is_set w i) (sym is) ∙ h))),
-    ))
-  where
-    no-more : (n : ℕ) → n + 0 ≡ n
-    no-more n = omega arith
+  its-task : row_has_task q.signals changed chunk r ≡ not (eqb word 0)
+  its-task =
+      ap (λ w. ltb r (row_length q.signals) && not (eqb w 0)) (word-there q chunk r word row place-within) ∙ ap (λ b. b && not (eqb word 0)) (lt-ltb r (row_length q.signals) row)
 
-pub zero-word : (signals chunks c k : ℕ) → row_word signals (replicate (chunks * row_length signals) 0) c k ≡ 0
-zero-word signals chunks c k =
-    let at : ℕ = c * row_length signals + k in
-    elim (cases_lt at (chunks * row_length signals)) [
-      | inl h ↦ get_or-replicate (chunks * row_length signals) at 0 0 h
-      | inr h ↦ get_or-eq_default (replicate (chunks * row_length signals) 0) 0 (subst (λ m. m ≤ at) (sym (length-replicate (chunks * row_length signals) 0)) h)
+  other-task : (c k : ℕ) → ((c ≡ chunk) × (k ≡ r) → ⊥) → row_has_task q.signals changed c k ≡ row_has_task q.signals q.words c k
+  other-task c k apart =
+      elim (cases_lt k (row_length q.signals)) [
+        | inl there ↦ ap (λ w. ltb k (row_length q.signals) && not (eqb w 0)) (word-elsewhere q chunk r word row place-within c k there apart)
+        | inr past ↦
+            ap (λ b. b && not (eqb (row_word q.signals changed c k) 0)) (le-ltb k (row_length q.signals) past)
+            ∙ sym (ap (λ b. b && not (eqb (row_word q.signals q.words c k) 0)) (le-ltb k (row_length q.signals) past))
+      ]
+
+  its-mark : is_set (mark_word q.signals marks chunk (r / 64)) (r % 64) ≡ not (eqb (row_word q.signals q.words chunk r) 0)
+  its-mark =
+      kept.marked chunk (r / 64) (r % 64) early group (omega arith) ∙ ap (row_has_task q.signals q.words chunk) row-is
+      ∙ ap (λ b. b && not (eqb (row_word q.signals q.words chunk r) 0)) (lt-ltb r (row_length q.signals) row)
+
+  module _ (new : (i : ℕ) → i < 64 → is_set word i ≡ true → r * 64 + i < q.signals) where
+    -- another word stands there, its mark says whether it has a task, and the other marks are the same
+    marks-kept : (now : List ℕ) → length now ≡ length marks
+        → ((c g i : ℕ) → g < mark_length q.signals → ((c ≡ chunk) × (g * 64 + i ≡ r) → ⊥) → is_set (mark_word q.signals now c g) i ≡ is_set (mark_word q.signals marks c g) i)
+        → is_set (mark_word q.signals now chunk (r / 64)) (r % 64) ≡ not (eqb word 0) → IsKept q.signals q.chunks changed now
+    marks-kept now size others its = record {
+      few_signals = kept.few_signals;
+      few_chunks = kept.few_chunks;
+      size = length-set q.words (chunk * row_length q.signals + r) word ∙ kept.size;
+      marks_size = size ∙ kept.marks_size;
+      within = λ c k i hc hk hi h. elim (its-word q chunk r word row place-within c k hk) [
+        | inl (same, same_row, is) ↦ subst (λ n. n * 64 + i < q.signals) (sym same_row) (new i hi (ap (λ w. is_set w i) (sym is) ∙ h))
+        | inr is ↦ kept.within c k i hc hk hi (ap (λ w. is_set w i) (sym is) ∙ h)
+      ];
+      marked = λ c g i hc hg hi. elim (cases_place c g i) [
+        | inl (same, place) ↦
+            let same_group : g ≡ r / 64 = omega (arith, place, hi) in
+            let bit : i ≡ r % 64 = omega (arith, place, hi) in
+            ap (λ n. is_set (mark_word q.signals now n g) i) same ∙ ap (λ n. is_set (mark_word q.signals now chunk n) i) same_group
+            ∙ ap (is_set (mark_word q.signals now chunk (r / 64))) bit ∙ its
+            ∙ sym (ap (λ n. row_has_task q.signals changed n (g * 64 + i)) same ∙ ap (row_has_task q.signals changed chunk) place ∙ its-task)
+        | inr apart ↦ others c g i hg apart ∙ kept.marked c g i hc hg hi ∙ sym (other-task c (g * 64 + i) apart)
+      ];
+    }
+      where
+        cases_place : (c g i : ℕ) → ((c ≡ chunk) × (g * 64 + i ≡ r)) ⊎ ((c ≡ chunk) × (g * 64 + i ≡ r) → ⊥)
+        cases_place c g i =
+            elim (cases_eq c chunk) [
+              | inl same ↦ elim (cases_eq (g * 64 + i) r) [
+                | inl place ↦ inl (same, place)
+                | inr apart ↦ inr (λ e. apart e.1)
+              ]
+              | inr apart ↦ inr (λ e. apart e.0)
+            ]
+
+    module _ (place old : ℕ) (at : place ≡ chunk * row_length q.signals + r) (was : old ≡ get_or q.words place old) where
+      old-is : old ≡ row_word q.signals q.words chunk r
+      old-is = was ∙ ap (λ n. get_or q.words n old) at ∙ get_or_default q.words (chunk * row_length q.signals + r) old 0 place-within
+
+      -- the mark stays where it was right
+      pub same-kept : not (beq (eqb old 0) (eqb word 0)) ≡ false → IsKept q.signals q.chunks (set q.words place word) marks
+      same-kept same =
+          subst (λ n. IsKept q.signals q.chunks (set q.words n word) marks) (sym at)
+          (marks-kept marks refl (λ c g i hg apart. refl) (its-mark ∙ ap (λ n. not (eqb n 0)) (sym old-is) ∙ alike (eqb old 0) (eqb word 0) same))
+        where
+          alike : (a b : Bool) → not (beq a b) ≡ false → not a ≡ not b
+          alike true true h = refl
+          alike true false h = cc
+          alike false true h = cc
+          alike false false h = refl
+
+      -- it is flipped where it was not
+      module _ (count mark : ℕ) (counted : count ≡ mark_length q.signals) (stood : mark ≡ get_or marks (chunk * count + r / 64) mark) (other : not (beq (eqb old 0) (eqb word 0)) ≡ true) where
+        abbrev bit : ℕ
+        bit = 2 ^ (r % 64)
+
+        abbrev flipped : List ℕ
+        flipped = set marks (chunk * mark_length q.signals + r / 64) (bit_xor mark bit)
+
+        mark-is : mark ≡ mark_word q.signals marks chunk (r / 64)
+        mark-is = stood ∙ ap (λ n. get_or marks (chunk * n + r / 64) mark) counted ∙ get_or_default marks (chunk * mark_length q.signals + r / 64) mark 0 mark-within
+
+        there : mark_word q.signals flipped chunk (r / 64) ≡ bit_xor mark bit
+        there = get_or-set_same marks (chunk * mark_length q.signals + r / 64) (bit_xor mark bit) 0 mark-within
+
+        others : (c g i : ℕ) → g < mark_length q.signals → ((c ≡ chunk) × (g * 64 + i ≡ r) → ⊥) → is_set (mark_word q.signals flipped c g) i ≡ is_set (mark_word q.signals marks c g) i
+        others c g i hg apart =
+            elim (cases_eq (c * mark_length q.signals + g) (chunk * mark_length q.signals + r / 64)) [
+              | inl same ↦
+                  let spot = same_from_place c g chunk (r / 64) (mark_length q.signals) hg group same in
+                  let elsewhere : i ≡ r % 64 → ⊥ = λ e. apart (spot.0, ap (λ n. n * 64 + i) spot.1 ∙ ap (λ n. r / 64 * 64 + n) e ∙ row-is) in
+                  ap (λ n. is_set (get_or flipped n 0) i) same ∙ ap (λ w. is_set w i) there ∙ is_set_xor mark bit i ∙ ap (plus (is_set mark i)) (not-alone elsewhere) ∙ plus-false (is_set mark i)
+                  ∙ ap (λ w. is_set w i) mark-is ∙ ap (λ n. is_set (get_or marks n 0) i) (sym same)
+              | inr elsewhere ↦
+                  ap (λ w. is_set w i) (get_or-set_other marks (chunk * mark_length q.signals + r / 64) (c * mark_length q.signals + g) (bit_xor mark bit) 0 elsewhere)
+            ]
+          where
+            not-alone : (i ≡ r % 64 → ⊥) → is_set bit i ≡ false
+            not-alone apart =
+                elim (cases_Bool (is_set bit i)) [
+                  | inl is ↦ absurd (apart (alone-only (r % 64) i is))
+                  | inr none ↦ none
+                ]
+
+            plus-false : (b : Bool) → plus b false ≡ b
+            plus-false true = refl
+            plus-false false = refl
+
+        pub flip-kept : (mask : ℕ) → mask ≡ 2 ^ (r % 64) → IsKept q.signals q.chunks (set q.words place word) (set marks (chunk * count + r / 64) (bit_xor mark mask))
+        flip-kept mask alone =
+            subst (λ n. IsKept q.signals q.chunks (set q.words n word) (set marks (chunk * count + r / 64) (bit_xor mark mask))) (sym at)
+            (subst (λ n. IsKept q.signals q.chunks changed (set marks (chunk * n + r / 64) (bit_xor mark mask))) (sym counted)
+            (subst (λ b. IsKept q.signals q.chunks changed (set marks (chunk * mark_length q.signals + r / 64) (bit_xor mark b))) (sym alone)
+            (marks-kept flipped (length-set marks (chunk * mark_length q.signals + r / 64) (bit_xor mark bit)) others
+            (ap (λ w. is_set w (r % 64)) there ∙ is_set_xor mark bit (r % 64) ∙ ap (plus (is_set mark (r % 64))) (alone-set (r % 64))
+            ∙ ap (λ b. plus b true) (ap (λ w. is_set w (r % 64)) mark-is ∙ its-mark ∙ ap (λ n. not (eqb n 0)) (sym old-is)) ∙ turned (eqb old 0) (eqb word 0) other))))
+          where
+            turned : (a b : Bool) → not (beq a b) ≡ true → plus (not a) true ≡ not b
+            turned true true h = cc
+            turned true false h = refl
+            turned false true h = refl
+            turned false false h = cc
+
+zeros : (n at : ℕ) → get_or {A = ℕ} (replicate n 0) at 0 ≡ 0
+zeros n at =
+    elim (cases_lt at n) [
+      | inl h ↦ get_or-replicate n at 0 0 h
+      | inr h ↦ get_or-eq_default (replicate n 0) 0 (subst (λ m. m ≤ at) (sym (length-replicate n 0)) h)
     ]
 
-pub none-kept : (signals chunks : ℕ) → signals ≤ max_signals → chunks ≤ 128 → IsKept signals chunks (replicate (chunks * row_length signals) 0) (replicate chunks false)
+pub zero-word : (signals chunks c k : ℕ) → row_word signals (replicate (chunks * row_length signals) 0) c k ≡ 0
+zero-word signals chunks c k = zeros (chunks * row_length signals) (c * row_length signals + k)
+
+pub none-kept : (signals chunks : ℕ) → signals ≤ max_signals → chunks ≤ 128 → IsKept signals chunks (replicate (chunks * row_length signals) 0) (replicate (chunks * mark_length signals) 0)
 none-kept signals chunks few_signals few_chunks = record {
   few_signals = few_signals;
   few_chunks = few_chunks;
   size = length-replicate (chunks * row_length signals) 0;
-  flags_size = length-replicate chunks false;
+  marks_size = length-replicate (chunks * mark_length signals) 0;
   within = λ c k i hc hk hi h. absurd (true≢false (sym h ∙ ap (λ w. is_set w i) (zero-word signals chunks c k) ∙ is_set_zero i));
-  flagged = λ c k hc hk off. zero-word signals chunks c k;
+  marked = λ c g i hc hg hi.
+      ap (λ w. is_set w i) (zeros (chunks * mark_length signals) (c * mark_length signals + g)) ∙ is_set_zero i
+      ∙ sym (ap (λ w. ltb (g * 64 + i) (row_length signals) && not (eqb w 0)) (zero-word signals chunks c (g * 64 + i)) ∙ and-none (ltb (g * 64 + i) (row_length signals)));
 }
+  where
+    and-none : (b : Bool) → (b && false) ≡ false
+    and-none true = refl
+    and-none false = refl

@@ -1,5 +1,5 @@
 -- Tasks that wait: a bit for each signal, chunk by chunk.
-use Rattle.std.specs.Prelude.{ℕ, ◌≡◌, ◌≢◌, ◌<◌, ◌≤◌, ◌⊎◌, ◌+◌, ◌*◌, ◌/◌, ◌%◌, Bool, true, false, List, length, sum, slice_index_or, slice_set}
+use Rattle.std.specs.Prelude.{ℕ, ◌≡◌, ◌≢◌, ◌<◌, ◌≤◌, ◌⊎◌, ◌+◌, ◌*◌, ◌/◌, ◌%◌, ◌&&◌, ◌==◌, Bool, true, List, length, nat_lt, not, sum, slice_index_or, slice_set}
 use Rattle.std.specs.List.{Contains}
 use Rattle.sr_model.specs.declared.cells.Sig.{Sig}
 use Rattle.sr_model.specs.Limits.{max_signals}
@@ -73,14 +73,26 @@ pub record IsNextFrom (q : Waiting) (chunk from : ℕ) (next : Sig) : Type 0 whe
 abbrev pub IsIdle : Waiting → ℕ → Type 0
 IsIdle q chunk = (s : Sig) → Waits q s chunk → ⊥
 
--- each bit is that of a signal, and a chunk whose flag is not set has none
-pub record IsKept (signals chunks : ℕ) (words : List ℕ) (flags : List Bool) : Type 0 where
+-- how many words the marks of a chunk have, one for each 64 words
+abbrev pub mark_length : ℕ → ℕ
+mark_length signals = signals / 4096 + 1
+
+-- word g of the marks of a chunk
+abbrev pub mark_word : ℕ → List ℕ → ℕ → ℕ → ℕ
+mark_word signals marks chunk g = slice_index_or marks (chunk * mark_length signals + g) 0
+
+-- the chunk has a word r, and a task waits in it
+abbrev pub row_has_task : ℕ → List ℕ → ℕ → ℕ → Bool
+row_has_task signals words chunk r = nat_lt r (row_length signals) && not (row_word signals words chunk r == 0)
+
+-- each bit is that of a signal, and the mark of a word is set exactly where a task waits in it
+pub record IsKept (signals chunks : ℕ) (words marks : List ℕ) : Type 0 where
   pub few_signals : signals ≤ max_signals
   pub few_chunks : chunks ≤ 128
   pub size : length words ≡ chunks * row_length signals
-  pub flags_size : length flags ≡ chunks
+  pub marks_size : length marks ≡ chunks * mark_length signals
   pub within : (chunk r i : ℕ) → chunk < chunks → r < row_length signals → i < 64 → is_set (row_word signals words chunk r) i ≡ true → r * 64 + i < signals
-  pub flagged : (chunk r : ℕ) → chunk < chunks → r < row_length signals → slice_index_or flags chunk true ≡ false → row_word signals words chunk r ≡ 0
+  pub marked : (chunk g i : ℕ) → chunk < chunks → g < mark_length signals → i < 64 → is_set (mark_word signals marks chunk g) i ≡ row_has_task signals words chunk (g * 64 + i)
 
 -- a word of a chunk in which a task waits
 pub record HasTask (q : Waiting) (at : RowAt) : Type 0 where

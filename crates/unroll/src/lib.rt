@@ -8,10 +8,10 @@
 //! the laws.
 //!
 //! Only the order in which `next` of `WaitingTasks` sweeps over the tasks is tested and not proved: its contract says that the task waits, and that there is one where some task
-//! waits. The tests call each on a small netlist, or on 200 signals over four chunks. `Pace` has no clause: it sees nothing that it could change.
+//! waits. The tests call each on a small netlist, or on 8,300 signals over four chunks. `Pace` has no clause: it sees nothing that it could change.
 //!
 //! Limits: `MAX_CYCLES` cycles and `MAX_BLOCKS` blocks, which the caller keeps; a task has `MAX_GATE_SIGNALS` blocks at most. `SignalRecords` takes memory linear in the signals
-//! and pins, `WaitingTasks` a bit for each signal and chunk, and `constant_tasks` a number for each task that it lists; the caller makes the lists
+//! and pins, `WaitingTasks` a bit for each signal and chunk and one more for each 64 of them, and `constant_tasks` a number for each task that it lists; the caller makes the lists
 //! of `words`, and nothing else takes any.
 #![tactic(auto)]
 

@@ -109,19 +109,22 @@ impl<'n> SignalRecords<'n> {
     {
         let adjacent = self.adjacent(at.sig);
         let before = at.chunk > 0 && is_set(fresh, 0);
-        match self.records[at.sig.0 as usize].shape {
-            Shape::FlipFlop => Woken {
+        let shape = self.records[at.sig.0 as usize].shape;
+        if matches!(shape, Shape::FlipFlop) {
+            Woken {
                 before,
                 here: if fresh <= 1 { &adjacent[1..] } else { adjacent },
-            },
-            Shape::OwnPin => Woken {
+            }
+        } else if matches!(shape, Shape::OwnPin) {
+            Woken {
                 before,
                 here: adjacent,
-            },
-            _ => Woken {
+            }
+        } else {
+            Woken {
                 before: false,
                 here: adjacent,
-            },
+            }
         }
     }
 }

@@ -3,22 +3,24 @@ ghost use Rattle.std.specs.Prelude.{ℕ, [], ◌∷◌, replicate, false, length
 ghost use Rattle.sr_model.specs.declared.cells.Sig.{Sig as AnySig};
 ghost use Rattle.sr_model.specs.Limits.{max_signals};
 ghost use Rattle.unroll.specs.Bits.{is_set};
-ghost use Rattle.unroll.specs.Waiting.{Adds, AddsBut, TakesOut, IsNextFrom, IsFirstRow, Waits, IsIdle, row_length, row_word, waiting_measure, with_word, HasTask};
+ghost use Rattle.unroll.specs.Waiting.{Adds, AddsBut, TakesOut, IsNextFrom, IsFirstRow, Waits, IsIdle, row_has_task, mark_length, row_length, row_word, waiting_measure, with_word, HasTask};
 
+use crate::bits::low_bits;
 use crate::problem::InChunk;
 use sr_model::{NoMemory, Sig};
 use std::alloc::Global;
 use std::marker::Model;
 
-/// The tasks of gates and flip-flops that wait, a bit for each signal and chunk.
+/// The tasks of gates and flip-flops that wait, a bit for each signal and chunk. A mark says of each word of 64 bits whether one of them is set, so a search for the next task reads
+/// one word for each 4,096 signals that it passes over.
 ///
 /// `next` sweeps over them: those of a chunk by ascending and then by descending signals, until none waits there, and the chunks up and down in the same way. So the words
 /// in use lie near each other, and bits gather before a task has its turn.
 #[derive(Drop)]
 pub struct WaitingTasks {
     words: Vec<u64>,
-    /// For each chunk: if not, none waits there.
-    flags: Vec<bool>,
+    /// For each chunk a bit for each of its words, 64 to a word: whether a task waits there.
+    marks: Vec<u64>,
     signals: u32,
     chunks: u32,
     sweep: Sweep,
@@ -44,11 +46,11 @@ impl Model for WaitingTasks {
 
     ghost view = { λ q. record { signals = q.signals; chunks = q.chunks; words = q.words.items } };
 
-    ghost invariant = { λ q. IsKept q.signals q.chunks q.words.items q.flags.items × (q.sweep.chunk < q.chunks) × (q.sweep.row < row_length q.signals) };
+    ghost invariant = { λ q. IsKept q.signals q.chunks q.words.items q.marks.items × (q.sweep.chunk < q.chunks) × (q.sweep.row < row_length q.signals) };
 }
 
 impl WaitingTasks {
-    /// None waits. It takes a bit for each signal and chunk.
+    /// None waits. It takes a bit for each signal and chunk, and one more for each 64 of them.
     pub fn new(alloc: Global, signals: u32, chunks: u32) -> Result<WaitingTasks, NoMemory>
         requires signals { signals ≤ max_signals }
         requires some_chunks { 1 ≤ chunks }
@@ -58,10 +60,10 @@ impl WaitingTasks {
         ensures none { IfOk result (λ q. (s : AnySig) (chunk : ℕ) → Waits q s chunk → ⊥) }
     {
         let words = zeros(alloc, chunks as usize * row_len(signals))?;
-        let flags = unset(alloc, chunks as usize)?;
+        let marks = zeros(alloc, chunks as usize * mark_len(signals))?;
         Ok(WaitingTasks {
             words,
-            flags,
+            marks,
             signals,
             chunks,
             sweep: Sweep {
@@ -91,10 +93,8 @@ impl WaitingTasks {
         requires chunk { chunk < self.old.chunks }
         ensures { Adds targets.now chunk self.old self.new }
     {
-        let start = self.place(chunk, 0);
-        self.flags[chunk as usize] = true;
         for sig in targets {
-            self.words[start + sig.0 as usize / 64] |= alone(sig.0 % 64);
+            self.add(InChunk { sig: *sig, chunk });
         }
     }
 
@@ -104,11 +104,9 @@ impl WaitingTasks {
         requires chunk { chunk < self.old.chunks }
         ensures { AddsBut targets.now but chunk self.old self.new }
     {
-        let start = self.place(chunk, 0);
-        self.flags[chunk as usize] = true;
         for sig in targets {
             if *sig != but {
-                self.words[start + sig.0 as usize / 64] |= alone(sig.0 % 64);
+                self.add(InChunk { sig: *sig, chunk });
             }
         }
     }
@@ -128,8 +126,8 @@ impl WaitingTasks {
         self.put(at.chunk, row, word);
     }
 
-    /// Takes out the task of the least signal from this one on whose task waits in a chunk. None exactly where there is none. No word before that of `from` is read, so a sweep
-    /// from signal to signal is linear in the words of the chunk and the tasks that are taken.
+    /// Takes out the task of the least signal from this one on whose task waits in a chunk. None exactly where there is none. No marks before that of `from` are read but those
+    /// in the same word, so a sweep from signal to signal is linear in the words of marks of the chunk and the tasks that are taken.
     pub fn take_from(&mut self, chunk: u32, from: u32) -> Option<Sig>
         requires { chunk < self.old.chunks }
         ensures next { IfSome result (IsNextFrom self.old chunk from) }
@@ -143,13 +141,12 @@ impl WaitingTasks {
     }
 
     /// The least signal, from this one on, of those whose task waits in a chunk.
-    fn next_from(&mut self, chunk: u32, from: u32) -> Option<Sig>
-        requires { chunk < self.old.chunks }
-        ensures same { self.new ≡ self.old }
-        ensures next { IfSome result (IsNextFrom self.old chunk from) }
-        ensures none { IsNone result → (s : AnySig) → from ≤ s.0 → Waits self.old s chunk → ⊥ }
+    fn next_from(&self, chunk: u32, from: u32) -> Option<Sig>
+        requires { chunk < self.now.chunks }
+        ensures next { IfSome result (IsNextFrom self.now chunk from) }
+        ensures none { IsNone result → (s : AnySig) → from ≤ s.0 → Waits self.now s chunk → ⊥ }
     {
-        let row = self.row_from(chunk, from as usize / 64)?;
+        let row = self.first_row(chunk, from as usize / 64)?;
         self.next_in(chunk, from, row)
     }
 
@@ -274,11 +271,10 @@ impl WaitingTasks {
     }
 
     /// The first word with a task of the chunks behind this one.
-    fn row_after(&mut self, chunk: u32) -> Option<RowAt>
-        requires { chunk < self.old.chunks }
-        ensures same { self.new ≡ self.old }
-        ensures some { IfSome result (HasTask self.old) }
-        ensures none { IsNone result → (c : ℕ) → chunk < c → IsIdle self.old c }
+    fn row_after(&self, chunk: u32) -> Option<RowAt>
+        requires { chunk < self.now.chunks }
+        ensures some { IfSome result (HasTask self.now) }
+        ensures none { IsNone result → (c : ℕ) → chunk < c → IsIdle self.now c }
     {
         let chunks = self.chunks;
         for later in chunk + 1..chunks {
@@ -290,11 +286,10 @@ impl WaitingTasks {
     }
 
     /// That of the chunks before this one, the last of them first.
-    fn row_before(&mut self, chunk: u32) -> Option<RowAt>
-        requires { chunk < self.old.chunks }
-        ensures same { self.new ≡ self.old }
-        ensures some { IfSome result (HasTask self.old) }
-        ensures none { IsNone result → (c : ℕ) → c < chunk → IsIdle self.old c }
+    fn row_before(&self, chunk: u32) -> Option<RowAt>
+        requires { chunk < self.now.chunks }
+        ensures some { IfSome result (HasTask self.now) }
+        ensures none { IsNone result → (c : ℕ) → c < chunk → IsIdle self.now c }
     {
         for earlier in (0..chunk).rev() {
             if let Some(at) = self.row_in(earlier) {
@@ -305,33 +300,13 @@ impl WaitingTasks {
     }
 
     /// That of one chunk.
-    fn row_in(&mut self, chunk: u32) -> Option<RowAt>
-        requires { chunk < self.old.chunks }
-        ensures same { self.new ≡ self.old }
-        ensures some { IfSome result (HasTask self.old) }
-        ensures none { IsNone result → IsIdle self.old chunk }
+    fn row_in(&self, chunk: u32) -> Option<RowAt>
+        requires { chunk < self.now.chunks }
+        ensures some { IfSome result (HasTask self.now) }
+        ensures none { IsNone result → IsIdle self.now chunk }
     {
-        let row = self.row_from(chunk, 0)?;
+        let row = self.first_row(chunk, 0)?;
         Some(RowAt { chunk, row })
-    }
-
-    /// The first word of a chunk with a task from this one on. Where the chunk's flag is not set, it reads none; where the whole chunk has none, the flag goes.
-    fn row_from(&mut self, chunk: u32, from: usize) -> Option<usize>
-        requires { chunk < self.old.chunks }
-        ensures same { self.new ≡ self.old }
-        ensures some { IfSome result (IsFirstRow self.old chunk from) }
-        ensures none { IsNone result → (r : ℕ) → from ≤ r → r < row_length self.old.signals → row_word self.old.signals self.old.words chunk r ≡ 0 }
-    {
-        if !self.flags[chunk as usize] {
-            return None;
-        }
-        if let Some(row) = self.first_row(chunk, from) {
-            return Some(row);
-        }
-        if from == 0 {
-            self.flags[chunk as usize] = false;
-        }
-        None
     }
 
     /// The first word of a chunk with a task from this one on.
@@ -340,9 +315,11 @@ impl WaitingTasks {
         ensures some { IfSome result (IsFirstRow self.now chunk from) }
         ensures none { IsNone result → (r : ℕ) → from ≤ r → r < row_length self.now.signals → row_word self.now.signals self.now.words chunk r ≡ 0 }
     {
-        for row in from..row_len(self.signals) {
-            if self.word(chunk, row) != 0 {
-                return Some(row);
+        for group in from / 64..mark_len(self.signals) {
+            let ahead = !low_bits(from.saturating_sub(group * 64) as u32);
+            let marks = self.marks_in(chunk, group) & ahead;
+            if marks != 0 {
+                return Some(group * 64 + lowest_bit(marks) as usize);
             }
         }
         None
@@ -354,9 +331,11 @@ impl WaitingTasks {
         requires below { below ≤ row_length self.now.signals }
         ensures { IfSome result (λ row. (row < row_length self.now.signals) × (row_word self.now.signals self.now.words chunk row ≢ 0)) }
     {
-        for row in (0..below).rev() {
-            if self.word(chunk, row) != 0 {
-                return Some(row);
+        for group in (0..below.div_ceil(64)).rev() {
+            let behind = low_bits((below - group * 64).min(64) as u32);
+            let marks = self.marks_in(chunk, group) & behind;
+            if marks != 0 {
+                return Some(group * 64 + highest_bit(marks) as usize);
             }
         }
         None
@@ -404,7 +383,7 @@ impl WaitingTasks {
         }
     }
 
-    /// Replaces a word of a chunk.
+    /// Replaces a word of a chunk. Its mark is turned where the word comes to be 0, or is 0 no longer.
     fn put(&mut self, chunk: u32, row: usize, word: u64)
         requires chunk { chunk < self.old.chunks }
         requires row { row < row_length self.old.signals }
@@ -412,8 +391,21 @@ impl WaitingTasks {
         ensures { self.new ≡ with_word self.old chunk row word }
     {
         let place = self.place(chunk, row);
+        let old = self.words[place];
         self.words[place] = word;
-        self.flags[chunk as usize] = true;
+        if (old == 0) != (word == 0) {
+            let at = chunk as usize * mark_len(self.signals) + row / 64;
+            self.marks[at] ^= alone((row % 64) as u32);
+        }
+    }
+
+    /// The marks of a group of 64 words of a chunk.
+    fn marks_in(&self, chunk: u32, group: usize) -> u64
+        requires chunk { chunk < self.now.chunks }
+        requires group { group < mark_length self.now.signals }
+        ensures { (i : ℕ) → i < 64 → is_set result i ≡ row_has_task self.now.signals self.now.words chunk (group * 64 + i) }
+    {
+        self.marks[chunk as usize * mark_len(self.signals) + group]
     }
 
     /// A word of a chunk.
@@ -452,6 +444,13 @@ fn row_len(signals: u32) -> usize
     signals as usize / 64 + 1
 }
 
+/// How many words the marks of a chunk have.
+fn mark_len(signals: u32) -> usize
+    ensures { result ≡ mark_length signals }
+{
+    signals as usize / 4096 + 1
+}
+
 fn lowest_bit(word: u64) -> u32
     requires { word ≢ 0 }
     ensures within { result < 64 }
@@ -483,16 +482,6 @@ fn zeros(alloc: Global, count: usize) -> Result<Vec<u64>, NoMemory>
 {
     match vec![in alloc; 0; count] {
         Ok(words) => Ok(words),
-        Err(_) => Err(NoMemory),
-    }
-}
-
-/// So many flags that are not set.
-fn unset(alloc: Global, count: usize) -> Result<Vec<bool>, NoMemory>
-    ensures { IfOk result (λ flags. flags.items ≡ replicate count false) }
-{
-    match vec![in alloc; false; count] {
-        Ok(flags) => Ok(flags),
         Err(_) => Err(NoMemory),
     }
 }

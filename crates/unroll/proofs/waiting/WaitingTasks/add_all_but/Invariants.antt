@@ -1,13 +1,6 @@
-use Rattle.std.proofs.Common.{◌≡◌, ◌<◌, true, take, get_or}
-use Rattle.unroll.specs.Waiting.{AddsBut, IsKept, row_length}
+use Rattle.std.proofs.Common.{take}
+use Rattle.unroll.specs.Waiting.{AddsBut}
 use Rattle.unroll.proofs.waiting.WaitingTasks.add_all_but.Given as goal
 
 abbrev pub invariant-loop-sig : goal.invariant-loop-sig
-invariant-loop-sig l =
-    record {
-      adds : AddsBut (take l.sig-index l.targets) l.but l.chunk l.fn.self (record { signals = l.self-inside.signals; chunks = l.self-inside.chunks; words = l.self-inside.words.items });
-      kept : IsKept l.self-inside.signals l.self-inside.chunks l.self-inside.words.items l.self-inside.flags.items;
-      flag : get_or l.self-inside.flags.items l.chunk true ≡ true;
-      chunk : l.self-inside.sweep.chunk < l.self-inside.chunks;
-      row : l.self-inside.sweep.row < row_length l.self-inside.signals;
-    }
+invariant-loop-sig l = AddsBut (take l.sig-index l.targets) l.but l.chunk l.fn.self l.self

@@ -1,19 +1,41 @@
-use Rattle.std.proofs.Common.{ℕ, ◌≡◌, ◌+◌, ◌*◌, ◌<◌, true, set, sym, ap, subst, ◌∙◌}
-use Rattle.unroll.specs.Bits.{is_set}
-use Rattle.unroll.specs.Waiting.{Waiting, IsKept, row_length}
-use Rattle.unroll.proofs.WaitingWords.{put-kept}
+use Rattle.std.proofs.Common.{◌+◌, ◌*◌, ◌/◌, ◌<◌, List, ℕ, length, get_or, set, bit_xor, arith, sym, ap, subst, ◌∙◌}
+use Rattle.unroll.specs.Waiting.{Waiting, IsKept, mark_length}
+use Rattle.unroll.proofs.WaitingWords.{flip-kept, mark-within, same-kept}
 use Rattle.unroll.proofs.waiting.WaitingTasks.put.Goals as goal
+
+pub index_mut-requires-then-old-word : goal.index_mut-requires-then-old-word
+index_mut-requires-then-old-word c =
+    let marks : List ℕ = c.self.inside.marks.items in
+    let kept : IsKept c.args.self.now.signals c.args.self.now.chunks c.args.self.now.words marks =
+    subst (λ (w : Waiting). IsKept w.signals w.chunks w.words marks) c.self.view_is c.self.invariant.0 in
+    let within : c.args.chunk * c.mark_len.result + c.args.row / 64 < length marks =
+    subst (λ n. c.args.chunk * n + c.args.row / 64 < length marks) (sym (c.mark_len.ensures ∙ ap (λ (w : Waiting). mark_length w.signals) c.self.view_is))
+    (mark-within c.args.self.now marks kept c.args.chunk c.args.row c.args.word c.requires.chunk c.requires.row) in
+    omega (arith, within, c.self.inside.marks.ok.0)
 
 pub invariant_of-self : goal.invariant_of-self
 invariant_of-self c =
-    let early : c.args.chunk < c.self.inside.chunks = subst (λ (w : Waiting). c.args.chunk < w.chunks) (sym c.self.view_is) c.requires.chunk in
-    let row : c.args.row < row_length c.self.inside.signals = subst (λ (w : Waiting). c.args.row < row_length w.signals) (sym c.self.view_is) c.requires.row in
-    let place : c.place-place.result ≡ c.args.chunk * row_length c.self.inside.signals + c.args.row =
-    c.place-place.ensures.place ∙ ap (λ (w : Waiting). c.args.chunk * row_length w.signals + c.args.row) (sym c.self.view_is) in
-    let bits : (i : ℕ) → i < 64 → is_set c.args.word i ≡ true → c.args.row * 64 + i < c.self.inside.signals =
-    λ i small h. subst (λ (w : Waiting). c.args.row * 64 + i < w.signals) (sym c.self.view_is) (c.requires.signals i small h) in (
-      subst (λ n. IsKept c.self.inside.signals c.self.inside.chunks (set c.self.inside.words.items n c.args.word) (set c.self.inside.flags.items c.args.chunk true)) (sym place)
-          (put-kept c.self.inside.signals c.self.inside.chunks c.self.inside.words.items c.self.inside.flags.items c.self.invariant.0 c.args.chunk c.args.row c.args.word early row bits),
+    let marks : List ℕ = c.self.inside.marks.items in
+    let kept : IsKept c.args.self.now.signals c.args.self.now.chunks c.args.self.now.words marks =
+    subst (λ (w : Waiting). IsKept w.signals w.chunks w.words marks) c.self.view_is c.self.invariant.0 in (
+      subst (λ (w : Waiting). IsKept w.signals w.chunks (set w.words c.place-place.result c.args.word)
+          (set marks (c.args.chunk * c.mark_len.result + c.args.row / 64) (bit_xor c.index_mut-then-old-word.result.now c.alone.result))) (sym c.self.view_is)
+          (flip-kept c.args.self.now marks kept c.args.chunk c.args.row c.args.word c.requires.chunk c.requires.row c.requires.signals c.place-place.result c.index-old.result.now c.place-place.ensures.place
+          (c.index-old.ensures ∙ ap (λ (w : Waiting). get_or w.words c.place-place.result c.index-old.result.now) c.self.view_is)
+          c.mark_len.result c.index_mut-then-old-word.result.now (c.mark_len.ensures ∙ ap (λ (w : Waiting). mark_length w.signals) c.self.view_is) c.index_mut-then-old-word.ensures.value c.if-old-word.true
+          c.alone.result c.alone.ensures),
+      c.self.invariant.1,
+      c.self.invariant.2,
+    )
+
+pub invariant_of-self-else-old-word : goal.invariant_of-self-else-old-word
+invariant_of-self-else-old-word c =
+    let marks : List ℕ = c.self.inside.marks.items in
+    let kept : IsKept c.args.self.now.signals c.args.self.now.chunks c.args.self.now.words marks =
+    subst (λ (w : Waiting). IsKept w.signals w.chunks w.words marks) c.self.view_is c.self.invariant.0 in (
+      subst (λ (w : Waiting). IsKept w.signals w.chunks (set w.words c.place-place.result c.args.word) marks) (sym c.self.view_is)
+          (same-kept c.args.self.now marks kept c.args.chunk c.args.row c.args.word c.requires.chunk c.requires.row c.requires.signals c.place-place.result c.index-old.result.now c.place-place.ensures.place
+          (c.index-old.ensures ∙ ap (λ (w : Waiting). get_or w.words c.place-place.result c.index-old.result.now) c.self.view_is) c.if-old-word.false),
       c.self.invariant.1,
       c.self.invariant.2,
     )
