@@ -12,3 +12,4 @@ mod LoadNames
 mod Apart
 mod LoadShape
 mod LoadNets
+mod RowWords

@@ -107,7 +107,7 @@ fn packed(bits: &[bool], from: usize) -> u64
 }
 
 /// How many of so many bits stand in one word.
-fn count_in_word(left: usize) -> usize
+pub(crate) fn count_in_word(left: usize) -> usize
     ensures few { result ≤ 64 }
     ensures within { result ≤ left }
     ensures all { (64 ≤ result) ⊎ (left ≤ result) }

@@ -1,18 +1,22 @@
 //! The simulated execution.
-ghost use Rattle.std.specs.Prelude.{◌≡◌, ◌<◌, length, IfOk};
+ghost use Rattle.std.specs.Prelude.{ℕ, ◌≡◌, ◌<◌, ◌+◌, ◌*◌, Bool, length, slice_get, IfOk};
+ghost use Rattle.sr_model.specs.Dump.{is_bit};
+ghost use Rattle.sr_model.specs.Limits.{chunk_count};
 ghost use Rattle.sr_model.specs.Netlist.{Valuation};
 ghost use Rattle.netlist.specs.Wiring.{signals_below};
 ghost use Rattle.dump_reader.specs.Recording.{IsCount};
 ghost use Rattle.cycle_sim.specs.BitTable.{bit_in};
-ghost use Rattle.cycle_sim.specs.Simulation.{AgreeOnCells, HasWhatFollows, IsSimulated, bits_of};
+ghost use Rattle.cycle_sim.specs.Simulation.{AgreeOnCells, HasWhatFollows, IsSimulated, bits_of, traced_row};
+ghost use Rattle.unroll.specs.Bits.{is_set, word_for};
 
-use crate::bit_rows::BitRows;
+use crate::bit_rows::{BitRows, count_in_word};
 use crate::cycles::simulated_bits;
 use crate::input_bits::Stimulus;
 use netlist::Netlist;
 use sr_model::{Cell, NoMemory, Sequence, Sig};
 use std::alloc::Global;
 use std::marker::Model;
+use unroll::{InChunk, PinWord};
 
 /// An execution of a netlist: the bit of each signal in each of 1 to 8,192 cycles. A cycle's bits stand in whole words.
 #[derive(Debug, Drop)]
@@ -47,6 +51,25 @@ impl Execution {
         ensures count { IsCount result }
     {
         self.bits.count() as u32
+    }
+
+    /// The literals of a signal's cells in a chunk of 64 cycles, as its traced row has them.
+    pub fn words_in_chunk(&self, at: InChunk) -> PinWord
+        requires signal { at.sig.0 < self.now.width }
+        requires chunk { at.chunk < chunk_count self.now.count }
+        ensures { (bit : Bool) (i : ℕ) → i < 64 → is_set (word_for bit result) i ≡ is_bit (slice_get (traced_row (bits_of self.now) self.now.count at.sig).bits (64 * at.chunk + i)) bit }
+    {
+        let start = 64 * at.chunk as usize;
+        let column = at.sig.0 as usize;
+        let mut words = PinWord::none();
+        for i in 0..count_in_word(self.bits.count() - start) {
+            if self.bits.bit(start + i, column) {
+                words.one |= 1 << i;
+            } else {
+                words.zero |= 1 << i;
+            }
+        }
+        words
     }
 
     pub(crate) fn bits(&self) -> &BitRows

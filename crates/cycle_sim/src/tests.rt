@@ -12,6 +12,7 @@ use sr_model::{Bytes, Cell, Kind, Names, NoMemory, Numbered, Sig, Statement, Sta
 use std::alloc::Global;
 use std::process::Abort;
 use std::test::Fail;
+use unroll::InChunk;
 
 fn to_bytes(alloc: Global, text: &[u8]) -> Result<Bytes, NoMemory> {
     let mut bytes = Bytes::new(alloc);
@@ -80,6 +81,20 @@ fn has_bits(rt: &impl Abort, e: &Execution)
     }
 }
 
+/// The words of each signal, by its bits.
+fn has_words(rt: &impl Abort, e: &Execution)
+    requires signals { e.now.width ≡ 4 }
+    requires cycles { e.now.count ≡ 4 }
+{
+    for (number, one) in [0b1101, 0b1010, 0b0100, 0b1000].into_iter().enumerate() {
+        assert!(rt; number < 4);
+        let sig = Sig(number as u32);
+        let words = e.words_in_chunk(InChunk { sig, chunk: 0 });
+        assert_eq!(rt; words.one, one, "{number}");
+        assert_eq!(rt; words.zero, 0b1111 ^ one, "{number}");
+    }
+}
+
 /// The rows of q2 and a, in this order.
 fn has_rows(rt: &impl Abort, dump: &Dump) {
     assert_eq!(rt; dump.row_count(), 2);
@@ -104,6 +119,7 @@ fn a_shift_register(rt: HostRuntime) -> Result<(), Fail> {
     simulation_laws();
     let execution = simulate(alloc, &net, &drawn)?;
     has_bits(&rt, &execution);
+    has_words(&rt, &execution);
     let sigs = [Sig(2), Sig(0)];
     has_rows(&rt, &trace_of(alloc, &execution, &sigs)?);
     has_rows(&rt, &simulate_trace(alloc, &net, &drawn, &sigs)?);
