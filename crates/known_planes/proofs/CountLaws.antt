@@ -40,7 +40,7 @@ literals_by_block u planes of =
     whole : planes.chunks * signals_in u ≡ length planes.words
     whole = ap (λ n. n * signals_in u) of.chunks ∙ times-swap _ (signals_in u) ∙ sym of.blocks
 
-one-le : (a b : Bool) → (a ≡ true → b ≡ true) → cond a 1 0 ≤ cond b 1 0
+pub one-le : (a b : Bool) → (a ≡ true → b ≡ true) → cond a 1 0 ≤ cond b 1 0
 one-le true b h = subst (λ x. 1 ≤ cond x 1 0) (sym (h refl)) (omega arith)
 one-le false b h = omega arith
 

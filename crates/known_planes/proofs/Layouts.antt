@@ -1,4 +1,5 @@
 -- The words of blocks in the flat list.
+use Rattle.std.specs.Prelude.{Option}
 use Rattle.std.proofs.Common.{ℕ, ◌≡◌, ◌+◌, ◌*◌, ◌/◌, ◌%◌, ◌<◌, ◌≤◌, List, length, get_or, set, length-set, arith, inl, inr, sym, ap, subst, ◌∙◌}
 use Rattle.std.proofs.lemmas.Bool.{cases_eq}
 use Rattle.std.proofs.lemmas.List.{ext_get_or, get_or-set_same, get_or-set_other}
@@ -37,13 +38,17 @@ module _ (signals chunks : ℕ) (flat : List ℕ) where
       by ∙ ap (λ n. pair_at flat (place_of signals n ((s * chunks + chunk) % chunks))) (div-mul-add s chunks chunk k)
       ∙ ap (λ n. pair_at flat (place_of signals s n)) (mod-mul-add s chunks chunk k)
 
+-- planes over so many signals and chunks
+abbrev pub over : ℕ → ℕ → List PinWord → Option (List PinWord) → PlaneSet
+over signals chunks words mark = record { signals = signals; chunks = chunks; words = words; mark = mark }
+
 -- the words that are read at the place of a signal in a chunk
-pub pair-read : (signals chunks : ℕ) (flat : List ℕ) (planes : PlaneSet) → IsLaidOut signals chunks flat
-    → record { signals = signals; chunks = chunks; words = words_from signals chunks flat } ≡ planes
+pub pair-read : (signals chunks : ℕ) (flat : List ℕ) (mark : Option (List PinWord)) (planes : PlaneSet) → IsLaidOut signals chunks flat
+    → over signals chunks (words_from signals chunks flat) mark ≡ planes
     → (s chunk : ℕ) → s < planes.signals → chunk < planes.chunks
     → (place : ℕ) → place ≡ place_of signals s chunk → (z o : ℕ) → z ≡ get_or flat place z → o ≡ get_or flat (place + 1) o
     → record { zero = z; one = o } ≡ pair_in planes s chunk
-pair-read signals chunks flat planes laid view s chunk h k place at z o zero one =
+pair-read signals chunks flat mark planes laid view s chunk h k place at z o zero one =
     let s_in : s < signals = subst (λ (p : PlaneSet). s < p.signals) (sym view) h in
     let chunk_in : chunk < chunks = subst (λ (p : PlaneSet). chunk < p.chunks) (sym view) k in
     let within : place_of signals s chunk + 1 < 2 * (signals * chunks) = place-within signals chunks s chunk s_in chunk_in in
@@ -126,26 +131,3 @@ module _ (signals chunks : ℕ) (flat : List ℕ) (laid : IsLaidOut signals chun
                 ∙ sym (words-by-number signals chunks flat b below)
                 ∙ sym (get_or-set_other (words_from signals chunks flat) (s * chunks + chunk) b w no_words other)
           ]
-
-abbrev with-pair : PlaneSet → ℕ → PinWord → PlaneSet
-with-pair planes b pair = record { signals = planes.signals; chunks = planes.chunks; words = set planes.words b pair }
-
-abbrev pub over : ℕ → ℕ → List PinWord → PlaneSet
-over signals chunks words = record { signals = signals; chunks = chunks; words = words }
-
-planes-of : (signals chunks : ℕ) (a b : List PinWord) → a ≡ b → over signals chunks a ≡ over signals chunks b
-planes-of signals chunks a b e = ap (over signals chunks) e
-
--- the words that are written at the place of a signal in a chunk
-pub pair-written : (signals chunks : ℕ) (flat : List ℕ) (planes : PlaneSet) → IsLaidOut signals chunks flat
-    → record { signals = signals; chunks = chunks; words = words_from signals chunks flat } ≡ planes
-    → (s chunk : ℕ) → s < planes.signals → chunk < planes.chunks → (place : ℕ) → place ≡ place_of signals s chunk → (pair : PinWord)
-    → over signals chunks (words_from signals chunks (set (set flat place pair.zero) (place + 1) pair.one)) ≡ with-pair planes (s * planes.chunks + chunk) pair
-pair-written signals chunks flat planes laid view s chunk h k place at pair =
-    let s_in : s < signals = subst (λ (p : PlaneSet). s < p.signals) (sym view) h in
-    let chunk_in : chunk < chunks = subst (λ (p : PlaneSet). chunk < p.chunks) (sym view) k in
-    let there : words_from signals chunks (set (set flat place pair.zero) (place + 1) pair.one) ≡ words_from signals chunks (set (set flat (place_of signals s chunk) pair.zero) (place_of signals s chunk + 1) pair.one) =
-    ap (λ n. words_from signals chunks (set (set flat n pair.zero) (n + 1) pair.one)) at in
-    let same : words_from signals chunks (set (set flat place pair.zero) (place + 1) pair.one) ≡ set (words_from signals chunks flat) (s * chunks + chunk) pair =
-    there ∙ words-written signals chunks flat laid s chunk s_in chunk_in pair.zero pair.one in
-    planes-of signals chunks _ _ same ∙ ap (λ (p : PlaneSet). with-pair p (s * p.chunks + chunk) pair) view

@@ -1,4 +1,7 @@
 mod Layouts
+mod Marks
+mod Noting
+mod InPlace
 mod Members
 mod BitCounts
 mod Sums
@@ -10,4 +13,6 @@ mod WordLists
 mod Clashes
 mod NewBits
 mod CountLaws
+mod KnownWords
+mod GoingBack
 pub mod lemmas

@@ -1,6 +1,6 @@
 -- Planes of a problem, and the literals that they have.
 use Rattle.std.proofs.Common.{ℕ, ◌≡◌, ◌+◌, ◌*◌, ◌/◌, ◌%◌, ◌<◌, ◌≤◌, ◌&&◌, Bool, true, false, List, length, get_or, set, length-set, replicate, arith, inl, inr, sym, ap, subst, refl, ◌∙◌}
-use Rattle.std.specs.Prelude.{nat_lt}
+use Rattle.std.specs.Prelude.{Option, None, nat_lt}
 use Rattle.std.proofs.lemmas.Bool.{cases_eq, cases_lt, le-ltb, and_parts}
 use Rattle.std.proofs.lemmas.List.{get_or-set_same, get_or-set_other, get_or-replicate}
 use Rattle.std.proofs.lemmas.Nat.{same_from_place, div_below}
@@ -55,7 +55,7 @@ of-with_pair u planes s chunk w of h k none new is =
 
 -- the words that are set for a signal and a chunk are those of their block
 pub set-is : (u : Unrolling) (planes : PlaneSet) (s : Sig) (chunk : ℕ) (w : PinWord) → IsOf u planes → (new : PlaneSet)
-    → new ≡ record { signals = planes.signals; chunks = planes.chunks; words = set planes.words (s.0 * planes.chunks + chunk) w }
+    → new ≡ record { signals = planes.signals; chunks = planes.chunks; words = set planes.words (s.0 * planes.chunks + chunk) w; mark = planes.mark }
     → new ≡ with_words planes (block_at u s chunk) w
 set-is u planes s chunk w of new is = is ∙ ap (λ n. with_words planes (record { 0 = s.0 * n + chunk }) w) of.chunks
 
@@ -86,16 +86,16 @@ has-elsewhere u planes s chunk w k l apart =
     ]
 
 -- a block's words are read for its signal and chunk
-pub signal-within : (signals chunks : ℕ) (flat : List ℕ) (planes : PlaneSet) → IsLaidOut signals chunks flat → over signals chunks (words_from signals chunks flat) ≡ planes
+pub signal-within : (signals chunks : ℕ) (flat : List ℕ) (mark : Option (List PinWord)) (planes : PlaneSet) → IsLaidOut signals chunks flat → over signals chunks (words_from signals chunks flat) mark ≡ planes
     → (b : ℕ) → b < length planes.words → b / chunks < planes.signals
-signal-within signals chunks flat planes laid view b h =
+signal-within signals chunks flat mark planes laid view b h =
     let some : 1 ≤ chunks = laid.some_chunks in
     let size : length planes.words ≡ signals * chunks = ap (λ (p : PlaneSet). length p.words) (sym view) ∙ words-size signals chunks flat in
     subst (λ (p : PlaneSet). b / chunks < p.signals) view (div_below b chunks signals (omega (arith, some)) (subst (λ n. b < n) size h))
 
-pub word-of_block : (signals chunks : ℕ) (flat : List ℕ) (planes : PlaneSet) → over signals chunks (words_from signals chunks flat) ≡ planes
+pub word-of_block : (signals chunks : ℕ) (flat : List ℕ) (mark : Option (List PinWord)) (planes : PlaneSet) → over signals chunks (words_from signals chunks flat) mark ≡ planes
     → (b : Block) (w : PinWord) → w ≡ pair_in planes (b.0 / chunks) (b.0 % chunks) → w ≡ words_at planes b
-word-of_block signals chunks flat planes view b w is =
+word-of_block signals chunks flat mark planes view b w is =
     is ∙ ap (λ n. get_or planes.words (b.0 / chunks * n + b.0 % chunks) no_words) (ap (λ (p : PlaneSet). p.chunks) (sym view))
     ∙ ap (λ n. get_or planes.words n no_words) (plus-swap (b.0 / chunks * chunks) (b.0 % chunks) ∙ mod-add-div' b.0 chunks)
   where
@@ -111,7 +111,7 @@ module _ (u : Unrolling) (signals chunks n : ℕ) (flat : List ℕ) (signals_is 
         | inr h ↦ get_or-eq_default (replicate n 0) 0 (subst (λ m. m ≤ i) (sym (length-replicate n 0)) h)
       ]
 
-  no-words : (b : Block) → words_at (over signals chunks (words_from signals chunks flat)) b ≡ no_words
+  no-words : (b : Block) → words_at (over signals chunks (words_from signals chunks flat) None) b ≡ no_words
   no-words b =
       elim (cases_lt b.0 (signals * chunks)) [
         | inl h ↦
@@ -120,14 +120,14 @@ module _ (u : Unrolling) (signals chunks n : ℕ) (flat : List ℕ) (signals_is 
         | inr h ↦ get_or-eq_default (words_from signals chunks flat) no_words (subst (λ m. m ≤ b.0) (sym (words-size signals chunks flat)) h)
       ]
 
-  bit-unset : (b : Block) (bit : Bool) (i : ℕ) → is_set (word_for bit (words_at (over signals chunks (words_from signals chunks flat)) b)) i ≡ false
+  bit-unset : (b : Block) (bit : Bool) (i : ℕ) → is_set (word_for bit (words_at (over signals chunks (words_from signals chunks flat) None) b)) i ≡ false
   bit-unset b bit i = ap (λ w. is_set (word_for bit w) i) (no-words b) ∙ unset bit
     where
       unset : (bit : Bool) → is_set (word_for bit no_words) i ≡ false
       unset true = is_set_zero i
       unset false = is_set_zero i
 
-  pub empty-of : IsOf u (over signals chunks (words_from signals chunks flat))
+  pub empty-of : IsOf u (over signals chunks (words_from signals chunks flat) None)
   empty-of =
       record {
         signals = signals_is;
@@ -136,7 +136,7 @@ module _ (u : Unrolling) (signals chunks n : ℕ) (flat : List ℕ) (signals_is 
         no_later = λ b h bit i few set. absurd (cc (bit-unset b bit i, set));
       }
 
-  pub empty-has : (l : Lit) → has u (over signals chunks (words_from signals chunks flat)) l ≡ false
+  pub empty-has : (l : Lit) → has u (over signals chunks (words_from signals chunks flat) None) l ≡ false
   empty-has l = ap (λ t. nat_lt l.cell.cycle u.cycles && t) (bit-unset (block_of u l.cell) l.bit (bit_of l.cell)) ∙ and-false (nat_lt l.cell.cycle u.cycles)
     where
       and-false : (t : Bool) → (t && false) ≡ false

@@ -124,4 +124,5 @@ module _ (u : Unrolling) (planes : PlaneSet) (of : IsOf u planes) (at : InChunk)
             ]
         | inr other ↦ inl (sym (other-bits a other bit i) ∙ h)
       ];
+      mark = ap (λ (x : PlaneSet). x.mark) is;
     }

@@ -1,6 +1,7 @@
 -- Sums over numbers one after another, over two lists in either order, and of fewer and more.
-use Rattle.std.proofs.Common.{ℕ, zero, suc, ◌≡◌, ◌+◌, ◌<◌, ◌≤◌, List, [], ◌∷◌, length, map, get_or, arith, refl, inl, inr, sym, ap, subst, ◌∙◌}
-use Rattle.std.specs.List.{sum_by, range_with_len, All, Contains}
+use Rattle.std.proofs.Common.{ℕ, zero, suc, ◌≡◌, ◌+◌, ◌<◌, ◌≤◌, Bool, true, false, cond, List, [], ◌∷◌, length, map, get_or, arith, refl, inl, inr, sym, ap, subst, ◌∙◌}
+use Rattle.std.specs.List.{sum_by, range_with_len, filter, All, Contains}
+use Rattle.std.proofs.lemmas.Bool.{cases_eq}
 use Rattle.std.proofs.lemmas.List.Elements.{All-head, All-tail}
 use Rattle.std.proofs.lemmas.List.Sums.{sum_by-cons}
 use Rattle.sr_model.proofs.lemmas.Members.{not_in_nil, Contains-cases}
@@ -139,3 +140,27 @@ sum-lt f g below (y ∷ xs) x h less =
           omega (arith, here, sum-le f g below xs, sum_by-cons f y xs, sum_by-cons g y xs)
       | inr later ↦ omega (arith, below y, sum-lt f g below xs x later less, sum_by-cons f y xs, sum_by-cons g y xs)
     ]
+
+-- two functions that agree but for one number
+pub sum-but_one : (f g : ℕ → ℕ) (j a n : ℕ) → a ≤ j → j < a + n → ((i : ℕ) → i < a + n → (i ≡ j → ⊥) → f i ≡ g i) → sum_by f (range_with_len a n) + g j ≡ sum_by g (range_with_len a n) + f j
+sum-but_one f g j a zero low high same = absurd (omega (arith, low, high))
+sum-but_one f g j a (suc n) low high same =
+    elim (cases_eq a j) [
+      | inl here ↦
+          let rest : sum_by f (range_with_len (a + 1) n) ≡ sum_by g (range_with_len (a + 1) n) = sum-agree f g (a + 1) n (λ i above below. same i (omega (arith, below)) (λ e. omega (arith, e, here, above))) in
+          omega (arith, sum_by-cons f a (range_with_len (a + 1) n), sum_by-cons g a (range_with_len (a + 1) n), rest, ap f here, ap g here)
+      | inr other ↦
+          let rest : sum_by f (range_with_len (a + 1) n) + g j ≡ sum_by g (range_with_len (a + 1) n) + f j =
+          sum-but_one f g j (a + 1) n (omega (arith, low, other)) (omega (arith, high)) (λ i below apart. same i (omega (arith, below)) apart) in
+          omega (arith, sum_by-cons f a (range_with_len (a + 1) n), sum_by-cons g a (range_with_len (a + 1) n), rest, same a (omega arith) other)
+    ]
+
+-- over the items that pass a test
+pub sum-filtered : {X : Type 0} (f : X → ℕ) (test : X → Bool) (xs : List X) → sum_by f (filter test xs) ≡ sum_by (λ x. cond (test x) (f x) 0) xs
+sum-filtered f test [] = refl
+sum-filtered f test (x ∷ xs) =
+    kept (test x) ∙ ap (λ m. cond (test x) (f x) 0 + m) (sum-filtered f test xs) ∙ sym (sum_by-cons (λ x. cond (test x) (f x) 0) x xs)
+  where
+    kept : (b : Bool) → sum_by f (cond b (x ∷ filter test xs) (filter test xs)) ≡ cond b (f x) 0 + sum_by f (filter test xs)
+    kept true = sum_by-cons f x (filter test xs)
+    kept false = sym (zero-plus (sum_by f (filter test xs)))

@@ -31,10 +31,10 @@ NewWordsAreLiterals =
 abbrev pub OtherLiteralsStay : Type 0
 OtherLiteralsStay = (u : Unrolling) (planes : PlaneSet) (b : Block) (w : PinWord) (l : Lit) → block_of u l.cell ≢ b → has u (with_words planes b w) l ≡ has u planes l
 
--- planes are what a list has of their words: no others have the same ones
+-- planes are what a list has of their words: no others with the same mark have the same ones
 abbrev pub ListsTellPlanes : Type 0
 ListsTellPlanes =
-    (u : Unrolling) (a b : PlaneSet) (list : List ℕ) → IsProblem u → IsOf u a → IsOf u b → ListsWords u a list → ListsWords u b list → a ≡ b
+    (u : Unrolling) (a b : PlaneSet) (list : List ℕ) → IsProblem u → IsOf u a → IsOf u b → a.mark ≡ b.mark → ListsWords u a list → ListsWords u b list → a ≡ b
 
 -- there are as many literals as bits in the words of all blocks
 abbrev pub LiteralsByBlock : Type 0

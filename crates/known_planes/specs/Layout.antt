@@ -3,6 +3,7 @@ use Rattle.std.specs.Prelude.{ℕ, ◌≡◌, ◌≤◌, ◌+◌, ◌*◌, ◌/�
 use Rattle.std.specs.List.{range_with_len}
 use Rattle.sr_model.specs.Limits.{chunk_count, max_blocks, max_cycles, max_signals}
 use Rattle.unroll.specs.declared.words.PinWord.{PinWord}
+use Rattle.unroll.specs.Problem.{Unrolling, chunks_in, signals_in}
 
 -- the place of the zero word of a signal in a chunk: chunk after chunk, each signal after signal; its one word is behind it
 abbrev pub place_of : ℕ → ℕ → ℕ → ℕ
@@ -19,6 +20,10 @@ pair_of signals chunks flat b = pair_at flat (place_of signals (b / chunks) (b %
 -- the pairs of all blocks
 abbrev pub words_from : ℕ → ℕ → List ℕ → List PinWord
 words_from signals chunks flat = map (pair_of signals chunks flat) (range_with_len 0 (signals * chunks))
+
+-- the same for a problem
+abbrev pub words_in : Unrolling → List ℕ → List PinWord
+words_in u flat = words_from (signals_in u) (chunks_in u) flat
 
 -- two words for each block, and a further one that is 0
 pub record IsLaidOut (signals chunks : ℕ) (flat : List ℕ) : Type 0 where

@@ -1,4 +1,6 @@
 pub mod Planes
+pub mod Marks
+pub mod Rows
 pub mod Layout
 pub mod WordLists
 pub mod Counts

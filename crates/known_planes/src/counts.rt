@@ -67,7 +67,7 @@ impl Planes {
 }
 
 /// How many bits of the word are set.
-fn count_bits(word: u64) -> u32
+pub(crate) fn count_bits(word: u64) -> u32
     ensures count { result ≡ bits_in word }
     ensures few { result ≤ 64 }
 {

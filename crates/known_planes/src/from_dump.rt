@@ -1,5 +1,5 @@
 //! The literals of a dump.
-ghost use Rattle.std.specs.Prelude.{ℕ, ◌≡◌, ◌<◌, ◌≤◌, ◌==◌, ◌&&◌, ◌||◌, Bool, IfOk, All, length, map, slice_get};
+ghost use Rattle.std.specs.Prelude.{ℕ, ◌≡◌, ◌<◌, ◌≤◌, ◌==◌, ◌&&◌, ◌||◌, Bool, None, IfOk, All, length, map, slice_get};
 ghost use Rattle.sr_model.specs.declared.cells.Lit.{Lit};
 ghost use Rattle.sr_model.specs.Dump.{dump_has, is_bit};
 ghost use Rattle.dump_reader.specs.Recording.{tri_bit};
@@ -19,6 +19,7 @@ pub fn seed(alloc: Global, p: &Problem, d: &Dump) -> Result<Planes, NoMemory>
     requires signals { All (λ row. row.sig.0 < signals_in p.now) d.now.rows }
     ensures of { IfOk result (IsOf p.now) }
     ensures literals { IfOk result (λ planes. (l : Lit) → has p.now planes l ≡ dump_has d.now.rows l) }
+    ensures mark { IfOk result (λ planes. planes.mark ≡ None) }
 {
     let mut planes = Planes::empty(alloc, p)?;
     for row in 0..d.row_count() {
@@ -34,6 +35,7 @@ fn join_row(planes: &mut Planes, p: &Problem, s: Sig, cells: &[Tri])
     requires cells { length cells.now ≡ p.now.cycles }
     ensures of { IsOf p.now planes.new }
     ensures literals { (l : Lit) → has p.now planes.new l ≡ (has p.now planes.old l || ((s.0 == l.cell.sig.0) && is_bit (slice_get (map tri_bit cells.now) l.cell.cycle) l.bit)) }
+    ensures mark { planes.new.mark ≡ planes.old.mark }
 {
     for chunk in 0..p.chunks() {
         let start = 64 * chunk as usize;

@@ -1,14 +1,17 @@
 //! A set of literals, kept as one flat list of words.
-ghost use Rattle.std.specs.Prelude.{ℕ, ◌≡◌, ◌≢◌, ◌<◌, ◌≤◌, ◌*◌, ◌+◌, Bool, length, false, true, IfOk, slice_set, replicate};
+ghost use Rattle.std.specs.Prelude.{ℕ, ◌≡◌, ◌≢◌, ◌<◌, ◌≤◌, ◌*◌, ◌+◌, Bool, None, length, false, true, IfOk, IfSome, OnErr, OnOk, slice_set, replicate};
 ghost use Rattle.sr_model.specs.declared.cells.Lit.{Lit};
 ghost use Rattle.sr_model.specs.Closure.{lit};
 ghost use Rattle.sr_model.specs.Limits.{chunk_count, max_cycles, max_signals};
 ghost use Rattle.unroll.specs.Bits.{is_set, word_for, union_of};
 ghost use Rattle.unroll.specs.Problem.{Unrolling, signals_in, blocks_in, block_in, chunk_at, HasNoLaterBit, IsInside};
-ghost use Rattle.known_planes.specs.Planes.{has, has_bit, is_new, pair_in, words_at, with_words, IsOf, IsNewIn, Joins, seen_of};
+ghost use Rattle.known_planes.specs.Planes.{back_at, has, has_bit, is_new, pair_in, words_at, with_mark, with_words, without_mark, IsMarked, IsOf, IsNewIn, Joins, seen_of};
+ghost use Rattle.known_planes.specs.Counts.{known_count};
 ghost use Rattle.known_planes.specs.WordLists.{IsWordList, ListsWords};
 
+use crate::back::replace;
 use crate::layout::place_among;
+use crate::mark::{Change, Mark};
 use sr_model::{Cell, NoMemory, Sig};
 use std::alloc::Global;
 use std::marker::Model;
@@ -26,22 +29,26 @@ pub enum Seen {
 /// A set of literals of a problem, seen by contracts as the zero word and the one word of each block.
 ///
 /// It takes 16 bytes for each block and 8 more, in one piece. The words of a block lie side by side where `place` says. At the end is one more word, which stays 0.
+/// With a mark it keeps, beside these, the words before of each block that changed since.
 #[derive(Drop)]
 pub struct Planes {
     words: Vec<u64>,
     signals: u32,
     chunks: u32,
+    mark: Option<Mark>,
 }
 
 impl Model for Planes {
     ghost use Rattle.known_planes.specs.Planes.{PlaneSet};
+    ghost use Rattle.std.specs.Prelude.{IfSome};
     ghost use Rattle.known_planes.specs.Layout.{words_from, IsLaidOut};
+    ghost use Rattle.known_planes.specs.Marks.{IsNotedOver, mark_of};
 
     ghost Value = { PlaneSet };
 
-    ghost view = { λ p. record { signals = p.signals; chunks = p.chunks; words = words_from p.signals p.chunks p.words.items } };
+    ghost view = { λ p. record { signals = p.signals; chunks = p.chunks; words = words_from p.signals p.chunks p.words.items; mark = mark_of p.chunks (words_from p.signals p.chunks p.words.items) p.mark } };
 
-    ghost invariant = { λ p. IsLaidOut p.signals p.chunks p.words.items };
+    ghost invariant = { λ p. IsLaidOut p.signals p.chunks p.words.items × IfSome p.mark (IsNotedOver p.signals p.chunks) };
 }
 
 impl Planes {
@@ -49,6 +56,7 @@ impl Planes {
     pub fn empty(alloc: Global, p: &Problem) -> Result<Planes, NoMemory>
         ensures of { IfOk result (IsOf p.now) }
         ensures none { IfOk result (λ planes. (l : Lit) → has p.now planes l ≡ false) }
+        ensures mark { IfOk result (λ planes. planes.mark ≡ None) }
     {
         let signals = p.net().signals();
         let chunks = p.chunks();
@@ -57,18 +65,20 @@ impl Planes {
             words,
             signals,
             chunks,
+            mark: None,
         })
     }
 
-    /// Planes with the same literals.
+    /// Planes with the same literals and no mark.
     pub fn copy(&self, alloc: Global) -> Result<Planes, NoMemory>
-        ensures { IfOk result (λ planes. planes ≡ self.now) }
+        ensures { IfOk result (λ planes. planes ≡ without_mark self.now) }
     {
         let words = Vec::from_slice(alloc, self.words.as_slice()).map_err(|_| NoMemory)?;
         Ok(Planes {
             words,
             signals: self.signals,
             chunks: self.chunks,
+            mark: None,
         })
     }
 
@@ -85,11 +95,13 @@ impl Planes {
         requires { IsWordList p.now words.items }
         ensures of { IsOf p.now result }
         ensures words { ListsWords p.now result words.items }
+        ensures mark { result.mark ≡ None }
     {
         Planes {
             words,
             signals: p.net().signals(),
             chunks: p.chunks(),
+            mark: None,
         }
     }
 
@@ -176,6 +188,39 @@ impl Planes {
         }
     }
 
+    /// Sets the mark at the literals that are there. It takes room for a change of each block, of which no more is used than blocks change, and a byte for each block.
+    pub fn set_mark(&mut self, alloc: Global) -> Result<(), NoMemory>
+        ensures ok { OnOk result (self.new ≡ with_mark self.old) }
+        ensures err { OnErr result (self.new ≡ self.old) }
+    {
+        self.mark = Some(Mark::new(alloc, self.signals, self.chunks)?);
+        Ok(())
+    }
+
+    /// Goes back to the literals of the mark, and answers how many flip-flop cells are known no longer. Its time goes by the blocks that changed.
+    pub fn go_back(&mut self, p: &Problem) -> u64
+        requires of { IsOf p.now self.old }
+        requires mark { IsMarked p.now self.old }
+        ensures back { IfSome self.old.mark (λ words. self.new ≡ back_at self.old words) }
+        ensures count { known_count p.now.circuit p.now.cycles (has p.now self.old) ≡ result + known_count p.now.circuit p.now.cycles (has p.now self.new) }
+        ensures few { result ≤ max_signals * max_cycles }
+    {
+        match &mut self.mark {
+            Some(mark) => mark.put_back(p, &mut self.words),
+            None => 0,
+        }
+    }
+
+    /// Moves the mark, if there is one, to the literals that are there. Its time goes by the blocks that changed.
+    pub fn keep(&mut self)
+        ensures none { self.old.mark ≡ None → self.new ≡ self.old }
+        ensures some { IfSome self.old.mark (λ _. self.new ≡ with_mark self.old) }
+    {
+        if let Some(mark) = &mut self.mark {
+            mark.clear();
+        }
+    }
+
     /// How many signals the planes are over.
     pub(crate) fn signals(&self) -> u32
         ensures signals { result ≡ self.now.signals }
@@ -205,15 +250,18 @@ impl Planes {
         }
     }
 
-    /// Replaces the words of a signal in a chunk.
+    /// Replaces the words of a signal in a chunk. Where there is a mark, the change is noted.
     fn set_pair(&mut self, s: Sig, chunk: u32, w: PinWord)
         requires signal { s.0 < self.old.signals }
         requires chunk { chunk < self.old.chunks }
-        ensures { self.new ≡ record { signals = self.old.signals; chunks = self.old.chunks; words = slice_set self.old.words (s.0 * self.old.chunks + chunk) w } }
+        ensures { self.new ≡ record { signals = self.old.signals; chunks = self.old.chunks; words = slice_set self.old.words (s.0 * self.old.chunks + chunk) w; mark = self.old.mark } }
     {
         let place = place_among(self.signals, s, chunk);
-        self.words[place] = w.zero;
-        self.words[place + 1] = w.one;
+        let before = replace(&mut self.words, place, w);
+        if let Some(mark) = &mut self.mark {
+            let at = InChunk { sig: s, chunk };
+            mark.note(Change { at, before });
+        }
     }
 }
 

@@ -1,7 +1,7 @@
 //! Planes of a small netlist over two chunks, worked out by hand.
 ghost use Rattle.std.specs.Prelude.{◌≡◌, ◌<◌, length, IfOk};
 ghost use Rattle.unroll.specs.Problem.{signals_in, chunks_in, HasNoLaterBit};
-ghost use Rattle.known_planes.specs.Planes.{IsOf};
+ghost use Rattle.known_planes.specs.Planes.{IsMarked, IsOf};
 
 use crate::{Closer, Planes, Seen, place, seed};
 use dump_reader::{Dump, Tri};
@@ -11,7 +11,7 @@ use std::alloc::Global;
 use std::process::Abort;
 use std::test::Fail;
 use std::thread::Threads;
-use unroll::{Block, InChunk, PinWord, Problem};
+use unroll::{Block, InChunk, PinWord, Problem, SignalRecords};
 
 fn to_bytes(alloc: Global, text: &[u8]) -> Result<Bytes, NoMemory> {
     let mut bytes = Bytes::new(alloc);
@@ -185,10 +185,91 @@ fn planes_again(alloc: Global, p: &Problem, planes: &Planes) -> Result<Planes, F
 }
 
 fn gives_none(rt: &(impl Abort + Threads + Sync), alloc: Global, p: &Problem, base: &Planes)
-    requires { IsOf p.now base.now }
+    requires of { IsOf p.now base.now }
+    requires cycles { p.now.cycles ≡ 70 }
+    requires signals { signals_in p.now ≡ 3 }
+{
+    assert!(rt; close_twice(rt, alloc, p, base).is_err());
+}
+
+/// Closes planes, and then once more with a row that has no literal.
+fn close_twice(
+    rt: &(impl Threads + Sync),
+    alloc: Global,
+    p: &Problem,
+    base: &Planes,
+) -> Result<(), NoMemory>
+    requires of { IsOf p.now base.now }
+    requires cycles { p.now.cycles ≡ 70 }
+    requires signals { signals_in p.now ≡ 3 }
 {
     let mut closer = Refusing;
-    assert!(rt; closer.close(rt, alloc, p, base).is_err());
+    let mut planes = closer.close(rt, alloc, p, base)?;
+    let records = SignalRecords::new(alloc, p.net())?;
+    let row = [PinWord::none(); 2];
+    closer.close_in_place(rt, alloc, p, &records, &mut planes, Sig(0), &row)
+}
+
+/// Adds literals of a signal in a chunk to planes with a mark.
+fn add(p: &Problem, planes: &mut Planes, sig: u32, chunk: u32, zero: u64, one: u64)
+    requires of { IsOf p.now planes.old }
+    requires marked { IsMarked p.now planes.old }
+    requires signal { sig < signals_in p.now }
+    requires chunk { chunk < chunks_in p.now }
+    ensures of { IsOf p.now planes.new }
+    ensures marked { IsMarked p.now planes.new }
+{
+    let sig = Sig(sig);
+    planes.add_in_chunk(p, InChunk { sig, chunk }, words(p, chunk, zero, one));
+}
+
+/// Adds more to three blocks of the seeded planes, to one of them twice, and goes back: of flip-flop cells those in the cycles 65 and 66 are no longer known.
+fn goes_back(rt: &impl Abort, p: &Problem, planes: &mut Planes)
+    requires of { IsOf p.now planes.old }
+    requires marked { IsMarked p.now planes.old }
+    requires cycles { p.now.cycles ≡ 70 }
+    requires signals { signals_in p.now ≡ 3 }
+    ensures of { IsOf p.now planes.new }
+    ensures marked { IsMarked p.now planes.new }
+{
+    add(p, planes, 0, 1, 3, 2);
+    add(p, planes, 2, 0, 1, 1);
+    add(p, planes, 0, 1, 4, 0);
+    add(p, planes, 1, 1, 0, 1);
+    has_counts(rt, p, planes, 8, 4);
+    assert_eq!(rt; planes.go_back(p), 2);
+    has_counts(rt, p, planes, 2, 2);
+    assert!(rt; planes.words() == [0, 1 << 63, 0, 0, 0, 0, 1, 0, 0, 0, 0, 0, 0].as_slice());
+}
+
+/// What is kept stays when the planes go back.
+fn keeps(rt: &impl Abort, p: &Problem, planes: &mut Planes)
+    requires of { IsOf p.now planes.old }
+    requires marked { IsMarked p.now planes.old }
+    requires cycles { p.now.cycles ≡ 70 }
+    requires signals { signals_in p.now ≡ 3 }
+{
+    add(p, planes, 0, 0, 1, 0);
+    planes.keep();
+    assert_eq!(rt; planes.go_back(p), 0);
+    has_counts(rt, p, planes, 3, 3);
+    add(p, planes, 0, 0, 2, 0);
+    assert_eq!(rt; planes.go_back(p), 1);
+    has_counts(rt, p, planes, 3, 3);
+}
+
+fn has_mark(rt: &impl Abort, alloc: Global, p: &Problem, seeded: &Planes) -> Result<(), Fail>
+    requires of { IsOf p.now seeded.now }
+    requires cycles { p.now.cycles ≡ 70 }
+    requires signals { signals_in p.now ≡ 3 }
+{
+    let mut planes = seeded.copy(alloc)?;
+    planes.keep();
+    has_counts(rt, p, &planes, 2, 2);
+    planes.set_mark(alloc)?;
+    goes_back(rt, p, &mut planes);
+    keeps(rt, p, &mut planes);
+    Ok(())
 }
 
 fn compare(rt: &(impl Abort + Threads + Sync), alloc: Global, p: &Problem) -> Result<(), Fail> {
@@ -207,7 +288,7 @@ fn compare(rt: &(impl Abort + Threads + Sync), alloc: Global, p: &Problem) -> Re
     all_seen(rt, p, &again)?;
     has_counts(rt, p, &again, 6, 3);
     gives_none(rt, alloc, p, &planes);
-    Ok(())
+    has_mark(rt, alloc, p, &seeded)
 }
 
 fn over_70<'n>(rt: &impl Abort, net: &'n Netlist) -> Problem<'n> {
