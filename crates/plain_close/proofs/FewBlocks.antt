@@ -165,6 +165,6 @@ apart-drives u s pin kind driver apart =
     ]
 
 -- the shape that a record tells
-pub shape-of : (u : Unrolling) (q : Worklist) → IsWorklistOf u q → (s x y : Sig) (told wanted : Shape) → told ≡ wanted → HasShape told (driver_at q.records s.0) s x y
+pub shape-of : (u : Unrolling) (q : Worklist) → IsWorklistOf u q → (s x y : Sig) (told wanted : Shape) → told ≡ wanted → HasShape told (driver_at q.records.now s.0) s x y
     → HasShape wanted (driver_at u.circuit.drivers s.0) s x y
 shape-of u q of s x y told wanted is shape = subst (λ w. HasShape w (driver_at u.circuit.drivers s.0) s x y) is (subst (λ ds. HasShape told (driver_at ds s.0) s x y) of.records shape)

@@ -1,5 +1,6 @@
 mod Adding
 mod AddingChange
+mod AddingRow
 mod AddingChanges
 mod CalmTasks
 mod ChangeLists

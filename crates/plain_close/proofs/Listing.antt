@@ -26,7 +26,7 @@ task-waits u q target chunk early h =
     subst (λ s. Waits q.waiting s (chunk_of u (task_at u target chunk))) (sym (block-sig u target chunk early)) (subst (λ c. Waits q.waiting target c) (sym (block-chunk u target chunk early)) h)
 
 -- a work list on which nothing waits
-pub none-wait : (u : Unrolling) (q : Worklist) → q.records ≡ u.circuit.drivers → q.waiting.signals ≡ signals_in u → q.waiting.chunks ≡ chunks_in u → HasNone q → IsWorklistOf u q
+pub none-wait : (u : Unrolling) (q : Worklist) → q.records.now ≡ u.circuit.drivers → q.waiting.signals ≡ signals_in u → q.waiting.chunks ≡ chunks_in u → HasNone q → IsWorklistOf u q
 none-wait u q records signals chunks none = record { records = records; signals = signals; chunks = chunks; tasks = λ s c h. absurd (none s c h) }
 
 -- so far no tasks, or no more
@@ -58,7 +58,7 @@ adds-not at before old never = record { signals = refl; chunks = refl; kept = λ
 
 -- those of the tasks that fresh bits wake were added that are not of the block's chunk, or are chosen
 pub woken-chosen : (u : Unrolling) (is : IsProblem u) (at : InChunk) (inside : IsInside u at) (fresh : ℕ) (old new : Worklist) (mid : Waiting) (before : Bool) (targets : List Sig) (Chosen : Sig → Type 0)
-    → IsWorklistOf u old → new.records ≡ old.records → before ≡ wakes_before old.records at.sig at.chunk fresh → targets ≡ woken_signals old.records at.sig fresh → AddsBefore at before old.waiting mid
+    → IsWorklistOf u old → new.records.now ≡ old.records.now → before ≡ wakes_before old.records.now at.sig at.chunk fresh → targets ≡ woken_signals old.records.now at.sig fresh → AddsBefore at before old.waiting mid
     → new.waiting.signals ≡ mid.signals → new.waiting.chunks ≡ mid.chunks → ((s : Sig) → Contains targets s → Chosen s → Waits new.waiting s at.chunk) → ((s : Sig) (c : ℕ) → Waits mid s c → Waits new.waiting s c)
     → ((s : Sig) (c : ℕ) → Waits new.waiting s c → Waits mid s c ⊎ (Contains targets s × (c ≡ at.chunk)))
     → Pushed u (λ t. IsWoken u at fresh t × ((r : Sig) → t ≡ task_at u r at.chunk → Chosen r)) old new
@@ -103,7 +103,7 @@ woken-chosen u is at inside fresh old new mid before targets Chosen are records 
 
 -- all of them were added
 pub woken-pushed : (u : Unrolling) (is : IsProblem u) (at : InChunk) (inside : IsInside u at) (fresh : ℕ) (old new : Worklist) (mid : Waiting) (before : Bool) (targets : List Sig) → IsWorklistOf u old
-    → new.records ≡ old.records → before ≡ wakes_before old.records at.sig at.chunk fresh → targets ≡ woken_signals old.records at.sig fresh → AddsBefore at before old.waiting mid
+    → new.records.now ≡ old.records.now → before ≡ wakes_before old.records.now at.sig at.chunk fresh → targets ≡ woken_signals old.records.now at.sig fresh → AddsBefore at before old.waiting mid
     → Adds targets at.chunk mid new.waiting → Pushed u (IsWoken u at fresh) old new
 woken-pushed u is at inside fresh old new mid before targets are records before_is targets_are first second =
     pushed-same u (λ t. IsWoken u at fresh t × ((r : Sig) → t ≡ task_at u r at.chunk → r ≡ r)) (IsWoken u at fresh) old new (λ t h. (h, λ r e. refl))
@@ -111,7 +111,7 @@ woken-pushed u is at inside fresh old new mid before targets are records before_
 
 -- all but one of the block's chunk
 pub woken-pushed_but : (u : Unrolling) (is : IsProblem u) (at : InChunk) (inside : IsInside u at) (fresh : ℕ) (but : Sig) (old new : Worklist) (mid : Waiting) (before : Bool) (targets : List Sig) → IsWorklistOf u old
-    → new.records ≡ old.records → before ≡ wakes_before old.records at.sig at.chunk fresh → targets ≡ woken_signals old.records at.sig fresh → AddsBefore at before old.waiting mid
+    → new.records.now ≡ old.records.now → before ≡ wakes_before old.records.now at.sig at.chunk fresh → targets ≡ woken_signals old.records.now at.sig fresh → AddsBefore at before old.waiting mid
     → AddsBut targets but at.chunk mid new.waiting → Pushed u (λ t. IsWoken u at fresh t × (t ≢ task_at u but at.chunk)) old new
 woken-pushed_but u is at inside fresh but old new mid before targets are records before_is targets_are first second =
     pushed-same u (λ t. IsWoken u at fresh t × ((r : Sig) → t ≡ task_at u r at.chunk → r ≢ but)) (λ t. IsWoken u at fresh t × (t ≢ task_at u but at.chunk)) old new
@@ -127,7 +127,7 @@ before-late drivers s chunk fresh before is so =
     (and_parts (is_flip_flop (driver_at drivers s.0)) (ltb 0 chunk && is_set fresh 0) (sym is ∙ so)).1).0
 
 -- they are there to be added
-pub woken-within : (u : Unrolling) → IsProblem u → (at : InChunk) → IsInside u at → (fresh : ℕ) (old : Worklist) → IsWorklistOf u old → (targets : List Sig) → targets ≡ woken_signals old.records at.sig fresh
+pub woken-within : (u : Unrolling) → IsProblem u → (at : InChunk) → IsInside u at → (fresh : ℕ) (old : Worklist) → IsWorklistOf u old → (targets : List Sig) → targets ≡ woken_signals old.records.now at.sig fresh
     → (n : ℕ) → n ≡ old.waiting.signals → All (λ (s : Sig). s.0 < n) targets
 woken-within u is at inside fresh old are targets targets_are n n_is =
     subst (All (λ (s : Sig). s.0 < n)) (sym (targets_are ∙ ap (λ ds. woken_signals ds at.sig fresh) are.records))
@@ -142,7 +142,7 @@ constant-is u is ts same i d h =
 
 -- one of them more
 pub constants-more : (u : Unrolling) (ts : List Task) (i : ℕ) (d : Task) (a b c : Worklist) → i < length ts → IsTask u (get_or ts i d) → Pushed u (Contains (take i ts)) a b
-    → (at : InChunk) → IsInside u at → at.sig ≡ target_of u (get_or ts i d) → at.chunk ≡ chunk_of u (get_or ts i d) → c.records ≡ b.records → Adds (at.sig ∷ []) at.chunk b.waiting c.waiting
+    → (at : InChunk) → IsInside u at → at.sig ≡ target_of u (get_or ts i d) → at.chunk ≡ chunk_of u (get_or ts i d) → c.records.now ≡ b.records.now → Adds (at.sig ∷ []) at.chunk b.waiting c.waiting
     → Pushed u (Contains (take (i + 1) ts)) a c
 constants-more u ts i d a b c h task before at inside sig chunk records adds = record {
   of = record {

@@ -119,7 +119,7 @@ still-waits u q r at early kept h =
     (subst (λ s. Waits q.waiting s (chunk_of u (task_in u at))) (sym (block-sig u at.sig at.chunk early)) (subst (λ c. Waits q.waiting at.sig c) (sym (block-chunk u at.sig at.chunk early)) h))))
 
 -- the tasks that are left after one was taken
-pub same-tasks : (u : Unrolling) (q left : Worklist) → IsWorklistOf u q → left.records ≡ q.records → left.waiting.signals ≡ q.waiting.signals → left.waiting.chunks ≡ q.waiting.chunks
+pub same-tasks : (u : Unrolling) (q left : Worklist) → IsWorklistOf u q → left.records.now ≡ q.records.now → left.waiting.signals ≡ q.waiting.signals → left.waiting.chunks ≡ q.waiting.chunks
     → ((s : Sig) (c : ℕ) → Waits left.waiting s c → Waits q.waiting s c) → IsWorklistOf u left
 same-tasks u q left are records signals chunks only = record { records = records ∙ are.records; signals = signals ∙ are.signals; chunks = chunks ∙ are.chunks; tasks = λ s c h. are.tasks s c (only s c h) }
 
@@ -130,6 +130,7 @@ between-none u planes q of are settled = record {
   worklist = are;
   settled = settled;
   kept = λ l h. h;
+  mark = refl;
   in_closure = has_base (unrolled u) (lits u planes);
   no_more = omega arith;
 }
@@ -142,6 +143,7 @@ between-turn u x y z q after left t before wakes no_more turn are waits_on = rec
   worklist = are;
   settled = λ r is. settled r is;
   kept = λ l h. has-kept u y z wakes.bits l (before.kept l h);
+  mark = wakes.mark ∙ before.mark;
   in_closure = λ l h. elim (turn.only l h) [
     | inl old ↦ before.in_closure l old
     | inr f ↦ forced_between (unrolled u) (lits u x) (lits u y) before.kept before.in_closure l (f.place, f.forces)
@@ -178,6 +180,7 @@ between-then u x y z q r first second = record {
   worklist = second.worklist;
   settled = second.settled;
   kept = λ l h. second.kept l (first.kept l h);
+  mark = second.mark ∙ first.mark;
   in_closure = λ l h. (same_closure (unrolled u) (lits u x) (lits u y) first.kept first.in_closure).0 l (second.in_closure l h);
   no_more = omega (arith, first.no_more, second.no_more);
 }

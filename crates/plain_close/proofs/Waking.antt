@@ -46,7 +46,7 @@ cell-task u t c of = subst (IsTask u) (sym (one-task u t of.place of.belongs)) (
 -- words of which all bits are there
 pub joins-known : (b : Block) (w : PinWord) (fresh : ℕ) (planes : PlaneSet) → ((bit : Bool) (i : ℕ) → is_set fresh i ≡ false → is_set (word_for bit w) i ≡ true → has_bit planes b bit i ≡ true) → fresh ≡ 0
     → Joins b w planes planes
-joins-known b w fresh planes known none = record { kept = λ a bit i h. h; joined = λ bit i set. known bit i (ap (λ n. is_set n i) none ∙ is_set_zero i) set; only = λ a bit i h. inl h }
+joins-known b w fresh planes known none = record { kept = λ a bit i h. h; joined = λ bit i set. known bit i (ap (λ n. is_set n i) none ∙ is_set_zero i) set; only = λ a bit i h. inl h; mark = refl }
 
 module _ (u : Unrolling) (is : IsProblem u) (at : InChunk) (inside : IsInside u at) (w : PinWord) (fresh : ℕ) (old new : PlaneSet) (of : IsOf u new) (joins : Joins (block_in u at) w old new) where
   -- a task that waits if fresh bits are in it waits, or its cells are as they were
@@ -76,6 +76,7 @@ module _ (u : Unrolling) (is : IsProblem u) (at : InChunk) (inside : IsInside u 
     of = of;
     worklist = p.of;
     bits = joins.kept;
+    mark = joins.mark;
     kept = p.kept;
     woken = λ t. waits-or-same known after t (p.pushed t);
   }
@@ -102,6 +103,7 @@ wakes-then u a b c p q r first second = record {
   of = second.of;
   worklist = second.worklist;
   bits = λ x bit i h. second.bits x bit i (first.bits x bit i h);
+  mark = second.mark ∙ first.mark;
   kept = λ t h. second.kept t (first.kept t h);
   woken = λ t. elim (second.woken t) [
     | inl waits ↦ inl waits
@@ -113,7 +115,7 @@ wakes-then u a b c p q r first second = record {
 }
 
 pub wakes-none : (u : Unrolling) (a : PlaneSet) (p : Worklist) → IsOf u a → IsWorklistOf u p → Wakes u a a p p
-wakes-none u a p of are = record { of = of; worklist = are; bits = λ x bit i h. h; kept = λ t h. h; woken = λ t. inr (λ x bit h. refl) }
+wakes-none u a p of are = record { of = of; worklist = are; bits = λ x bit i h. h; mark = refl; kept = λ t h. h; woken = λ t. inr (λ x bit h. refl) }
 
 pub falls-then : (u : Unrolling) (x y : Bool) (a b c : PlaneSet) (p q r : Worklist) → Falls u x a b p q → Falls u y b c q r → Falls u (y || x) a c p r
 falls-then u x true a b c p q r first second = record {

@@ -14,6 +14,7 @@ use Rattle.unroll.specs.Bits.{is_set, word_for}
 use Rattle.unroll.specs.Tasks.{IsCellOf, task_in}
 use Rattle.gate_rules.specs.Forced.{AreForcedBy, ForcedIn, IsDone, bit_at_place}
 use Rattle.known_planes.specs.Counts.{literal_count}
+use Rattle.known_planes.specs.Rows.{row_words_at}
 use Rattle.known_planes.specs.Planes.{PlaneSet, IsOf, has, has_bit, lits, words_at}
 use Rattle.plain_close.specs.declared.turns.Turned.{Turned}
 use Rattle.plain_close.specs.declared.worklist.Worklist.{Worklist}
@@ -23,11 +24,12 @@ use Rattle.plain_close.specs.Worklist.{IsWorklistOf, IsSettled, TaskWaits}
 abbrev pub missing_of : Unrolling → PlaneSet → ℕ
 missing_of u planes = 128 * blocks_in u - literal_count u planes
 
--- nothing is lost, and each task with a cell whose literals changed waits
+-- nothing is lost, the mark stays, and each task with a cell whose literals changed waits
 pub record Wakes (u : Unrolling) (old new : PlaneSet) (before after : Worklist) : Type 0 where
   pub of : IsOf u new
   pub worklist : IsWorklistOf u after
   pub bits : (b : Block) (bit : Bool) (i : ℕ) → has_bit old b bit i ≡ true → has_bit new b bit i ≡ true
+  pub mark : new.mark ≡ old.mark
   pub kept : (t : Task) → TaskWaits u before t → TaskWaits u after t
   pub woken : (t : Task) → TaskWaits u after t ⊎ ((c : Cell) (bit : Bool) → IsCellOf u t c → has u new (lit c bit) ≡ has u old (lit c bit))
 
@@ -112,6 +114,7 @@ pub record Between (u : Unrolling) (old new : PlaneSet) (after : Worklist) : Typ
   pub worklist : IsWorklistOf u after
   pub settled : IsSettled u new after
   pub kept : IsWithin (lits u old) (lits u new)
+  pub mark : new.mark ≡ old.mark
   pub in_closure : IsWithin (lits u new) (Closure (unrolled u) (lits u old))
   pub no_more : missing_of u new ≤ missing_of u old
 
@@ -124,3 +127,9 @@ pub record AddsChunk (u : Unrolling) (other : PlaneSet) (chunk signals : ℕ) (o
 pub record Adds (u : Unrolling) (other : PlaneSet) (chunks : ℕ) (old new : PlaneSet) : Type 0 where
   pub joined : (s : Sig) (chunk : ℕ) (bit : Bool) (i : ℕ) → s.0 < signals_in u → chunk < chunks → has_bit other (block_at u s chunk) bit i ≡ true → has_bit new (block_at u s chunk) bit i ≡ true
   pub only : (b : Block) (bit : Bool) (i : ℕ) → has_bit new b bit i ≡ true → (has_bit old b bit i ≡ true) ⊎ (has_bit other b bit i ≡ true)
+
+-- the literals of a signal's words in the first chunks are there, and no others are new than theirs
+pub record AddsRow (u : Unrolling) (s : Sig) (row : List PinWord) (chunks : ℕ) (old new : PlaneSet) : Type 0 where
+  pub joined : (chunk : ℕ) (bit : Bool) (i : ℕ) → chunk < chunks → is_set (word_for bit (row_words_at row chunk)) i ≡ true → has_bit new (block_at u s chunk) bit i ≡ true
+  pub only : (b : Block) (bit : Bool) (i : ℕ) → has_bit new b bit i ≡ true
+      → (has_bit old b bit i ≡ true) ⊎ ((chunk : ℕ) × (chunk < chunks) × (b ≡ block_at u s chunk) × (is_set (word_for bit (row_words_at row chunk)) i ≡ true))

@@ -13,7 +13,7 @@ use Rattle.plain_close.specs.declared.worklist.Worklist.{Worklist}
 
 -- it is over the problem's signals and chunks, and what waits are tasks
 pub record IsWorklistOf (u : Unrolling) (q : Worklist) : Type 0 where
-  pub records : q.records ≡ u.circuit.drivers
+  pub records : q.records.now ≡ u.circuit.drivers
   pub signals : q.waiting.signals ≡ signals_in u
   pub chunks : q.waiting.chunks ≡ chunks_in u
   pub tasks : (s : Sig) (chunk : ℕ) → Waits q.waiting s chunk → IsTaskAt u (record { sig = s; chunk = chunk })

@@ -9,7 +9,7 @@ use crate::wavefront::{LEVELS, Wavefront};
 use known_planes::Planes;
 use sr_model::{Cell, NoMemory};
 use std::alloc::Global;
-use unroll::Problem;
+use unroll::{Problem, SignalRecords};
 
 /// The first cell with both literals, and the level at which it comes. Level 0 is the base, and each level adds all that the one before forces.
 #[derive(Clone, Copy, Debug, PartialEq, Eq)]
@@ -29,7 +29,8 @@ pub fn first_clash(alloc: Global, p: &Problem, base: &Planes) -> Result<Option<C
     ensures within { IfOk result (λ found. IfSome found (λ clash. clash.cell.sig.0 < signals_in p.now)) }
     ensures none { IfOk result (λ found. IsNone found → (c : AnyCell) → HasBoth (Closure (unrolled p.now) (lits p.now base.now)) c → ⊥) }
 {
-    let mut wavefront = Wavefront::new(alloc, p, base)?;
+    let records = SignalRecords::new(alloc, p.net())?;
+    let mut wavefront = Wavefront::new(alloc, p, &records, base)?;
     let mut level = 0;
     loop {
         let added = wavefront.advance(p, level)?;

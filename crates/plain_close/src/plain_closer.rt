@@ -2,8 +2,9 @@
 ghost use Rattle.std.specs.Prelude.{◌<◌};
 ghost use Rattle.unroll.specs.Problem.{IsProblem, signals_in, chunks_in};
 ghost use Rattle.known_planes.specs.Planes.{IsOf};
+ghost use Rattle.known_planes.specs.Rows.{IsRow};
 ghost use Rattle.plain_close.specs.Worklist.{IsWorklistOf};
-ghost use Rattle.plain_close.specs.Turns.{Wakes, Adds, AddsChunk};
+ghost use Rattle.plain_close.specs.Turns.{Wakes, Adds, AddsChunk, AddsRow};
 
 use crate::many_blocks::Buffers;
 use crate::turns::{join, turn_all, turn_until_clash};
@@ -12,7 +13,7 @@ use known_planes::{Closer, Planes};
 use sr_model::{NoMemory, Sig};
 use std::alloc::Global;
 use std::thread::Threads;
-use unroll::{InChunk, Problem};
+use unroll::{InChunk, PinWord, Problem, SignalRecords};
 
 /// Closes by turns of the tasks that have a cell with something new, on one thread.
 ///
@@ -37,7 +38,8 @@ impl Closer for PlainCloser {
         base: &Planes,
     ) -> Result<Planes, NoMemory> {
         let mut planes = base.copy(alloc)?;
-        let mut worklist = Worklist::of_planes(alloc, p, &planes)?;
+        let records = SignalRecords::new(alloc, p.net())?;
+        let mut worklist = Worklist::of_planes(alloc, p, &records, &planes)?;
         let mut buffers = Buffers::new(alloc)?;
         turn_all(p, &mut planes, &mut worklist, &mut buffers)?;
         Ok(planes)
@@ -52,7 +54,8 @@ impl Closer for PlainCloser {
         added: &Planes,
     ) -> Result<Planes, NoMemory> {
         let mut planes = closed.copy(alloc)?;
-        let mut worklist = Worklist::new(alloc, p)?;
+        let records = SignalRecords::new(alloc, p.net())?;
+        let mut worklist = Worklist::new(alloc, p, &records)?;
         add_planes(p, &mut planes, &mut worklist, added);
         let mut buffers = Buffers::new(alloc)?;
         turn_all(p, &mut planes, &mut worklist, &mut buffers)?;
@@ -67,10 +70,43 @@ impl Closer for PlainCloser {
         base: Planes,
     ) -> Result<Planes, NoMemory> {
         let mut planes = base;
-        let mut worklist = Worklist::of_planes(alloc, p, &planes)?;
+        let records = SignalRecords::new(alloc, p.net())?;
+        let mut worklist = Worklist::of_planes(alloc, p, &records, &planes)?;
         let mut buffers = Buffers::new(alloc)?;
         turn_until_clash(p, &mut planes, &mut worklist, &mut buffers)?;
         Ok(planes)
+    }
+
+    fn close_in_place<R: Threads + Sync>(
+        &mut self,
+        _rt: &R,
+        alloc: Global,
+        p: &Problem,
+        records: &SignalRecords<'_>,
+        planes: &mut Planes,
+        sig: Sig,
+        row: &[PinWord],
+    ) -> Result<(), NoMemory> {
+        let mut worklist = Worklist::new(alloc, p, records)?;
+        add_row(p, planes, &mut worklist, sig, row);
+        let mut buffers = Buffers::new(alloc)?;
+        turn_all(p, planes, &mut worklist, &mut buffers)
+    }
+}
+
+/// Adds the literals of a signal's words, and lets the tasks about each changed block wait.
+fn add_row(p: &Problem, planes: &mut Planes, worklist: &mut Worklist, sig: Sig, row: &[PinWord])
+    requires problem { IsProblem p.now }
+    requires of { IsOf p.now planes.old }
+    requires row { IsRow p.now row.now }
+    requires worklist { IsWorklistOf p.now worklist.old }
+    requires signal { sig.0 < signals_in p.now }
+    ensures wakes { Wakes p.now planes.old planes.new worklist.old worklist.new }
+    ensures adds { AddsRow p.now sig row.now (chunks_in p.now) planes.old planes.new }
+{
+    for chunk in 0..p.chunks() {
+        let at = InChunk { sig, chunk };
+        join(p, planes, worklist, at, row[chunk as usize]);
     }
 }
 

@@ -45,8 +45,8 @@ fn mentioned(alloc: Global, signals: usize) -> Result<Statements, Fail> {
     Ok(statements)
 }
 
-fn built(rt: &impl Abort, alloc: Global, statements: &Statements) -> Result<Netlist, Fail> {
-    assert!(rt; are_statements(statements));
+fn built(rt: &impl Abort, alloc: Global, statements: Statements) -> Result<Netlist, Fail> {
+    assert!(rt; are_statements(&statements));
     Ok(build(alloc, statements)?)
 }
 
@@ -55,5 +55,5 @@ fn netlist_of(rt: &impl Abort, alloc: Global, drives: &[Drive]) -> Result<Netlis
     for (s, (kind, pins)) in drives.iter().enumerate() {
         statements.push(stated(drive_of(alloc, s, *kind, pins)?))?;
     }
-    built(rt, alloc, &statements)
+    built(rt, alloc, statements)
 }

@@ -36,6 +36,7 @@ pub(crate) fn turn_all(
     requires settled { IsSettled p.now planes.old worklist.old }
     requires room { max_gate_signals ≤ buffers.old.blocks.room }
     ensures of { OnOk result (IsOf p.now planes.new) }
+    ensures mark { OnOk result (planes.new.mark ≡ planes.old.mark) }
     ensures closure { OnOk result (SameLits (lits p.now planes.new) (Closure (unrolled p.now) (lits p.now planes.old))) }
 {
     while turn_to_next(p, planes, worklist, buffers)?.has_added() {}
@@ -94,7 +95,7 @@ fn turn_to_next(
 /// Takes a task that has had its turn, unless it is to have another one.
 fn take_turned(worklist: &mut Worklist, task: InChunk, again: bool)
     requires { Waits worklist.old.waiting task.sig task.chunk }
-    ensures records { worklist.new.records ≡ worklist.old.records }
+    ensures records { worklist.new.records.now ≡ worklist.old.records.now }
     ensures signals { worklist.new.waiting.signals ≡ worklist.old.waiting.signals }
     ensures chunks { worklist.new.waiting.chunks ≡ worklist.old.waiting.chunks }
     ensures kept { (s : AnySig) (c : ℕ) → Waits worklist.old.waiting s c → Waits worklist.new.waiting s c ⊎ (IsFalse again × (s ≡ task.sig) × (c ≡ task.chunk)) }

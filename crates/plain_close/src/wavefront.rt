@@ -13,7 +13,7 @@ use crate::worklist::Worklist;
 use known_planes::Planes;
 use sr_model::{Cell, NoMemory, Sequence};
 use std::alloc::Global;
-use unroll::Problem;
+use unroll::{Problem, SignalRecords};
 
 /// So many levels all chunks go on together, before the next ones.
 ///
@@ -22,29 +22,31 @@ pub(crate) const LEVELS: u32 = 4;
 
 /// What is known, chunk by chunk at a level, the tasks that may force more, and what is listed for the next level.
 #[derive(Drop)]
-pub(crate) struct Wavefront<'n> {
+pub(crate) struct Wavefront<'r> {
     planes: Planes,
-    worklist: Worklist<'n>,
+    worklist: Worklist<'r>,
     changes: Vec<Sequence<Change>>,
     buffers: Buffers,
     /// The least cell with both literals in the first level that has one, of those that chunks have come to.
     pub(crate) first: Option<Clash>,
 }
 
-impl<'n> Wavefront<'n> {
+impl<'r> Wavefront<'r> {
     /// All chunks at level 0.
     pub(crate) fn new(
         alloc: Global,
-        p: &Problem<'n>,
+        p: &Problem,
+        records: &'r SignalRecords<'r>,
         base: &Planes,
-    ) -> Result<Wavefront<'n>, NoMemory>
-        requires { IsOf p.now base.now }
+    ) -> Result<Wavefront<'r>, NoMemory>
+        requires of { IsOf p.now base.now }
+        requires records { records.now ≡ p.now.circuit.drivers }
         ensures wavefront { IfOk result (IsWavefront p.now base.now (λ _. 0)) }
         ensures first { IfOk result (λ w. IsFirst p.now base.now (λ _. 0) w.first) }
     {
         Ok(Wavefront {
             planes: base.copy(alloc)?,
-            worklist: Worklist::of_planes(alloc, p, base)?,
+            worklist: Worklist::of_planes(alloc, p, records, base)?,
             changes: no_changes(alloc, p.chunks())?,
             buffers: Buffers::new(alloc)?,
             first: clash_of_base(p, base),

@@ -14,37 +14,41 @@ use unroll::{Block, InChunk, Problem, SignalRecords, WaitingTasks};
 
 /// The tasks that wait to have a turn, beside a record for each signal.
 #[derive(Drop)]
-pub(crate) struct Worklist<'n> {
-    pub(crate) records: SignalRecords<'n>,
+pub(crate) struct Worklist<'r> {
+    pub(crate) records: &'r SignalRecords<'r>,
     pub(crate) waiting: WaitingTasks,
 }
 
-impl<'n> Worklist<'n> {
+impl<'r> Worklist<'r> {
     /// No task waits.
-    pub(crate) fn new(alloc: Global, p: &Problem<'n>) -> Result<Worklist<'n>, NoMemory>
+    pub(crate) fn new(
+        alloc: Global,
+        p: &Problem,
+        records: &'r SignalRecords<'r>,
+    ) -> Result<Worklist<'r>, NoMemory>
+        requires { records.now ≡ p.now.circuit.drivers }
         ensures problem { OnOk result (IsProblem p.now) }
         ensures of { IfOk result (IsWorklistOf p.now) }
         ensures none { IfOk result HasNone }
     {
-        let net = p.net();
-        Ok(Worklist {
-            records: SignalRecords::new(alloc, net)?,
-            waiting: WaitingTasks::new(alloc, net.signals(), p.chunks())?,
-        })
+        let waiting = WaitingTasks::new(alloc, p.net().signals(), p.chunks())?;
+        Ok(Worklist { records, waiting })
     }
 
     /// The tasks wait that may force something that planes do not have.
     pub(crate) fn of_planes(
         alloc: Global,
-        p: &Problem<'n>,
+        p: &Problem,
+        records: &'r SignalRecords<'r>,
         planes: &Planes,
-    ) -> Result<Worklist<'n>, NoMemory>
-        requires { IsOf p.now planes.now }
+    ) -> Result<Worklist<'r>, NoMemory>
+        requires of { IsOf p.now planes.now }
+        requires records { records.now ≡ p.now.circuit.drivers }
         ensures problem { OnOk result (IsProblem p.now) }
         ensures of { IfOk result (IsWorklistOf p.now) }
         ensures settled { IfOk result (IsSettled p.now planes.now) }
     {
-        let mut worklist = Worklist::new(alloc, p)?;
+        let mut worklist = Worklist::new(alloc, p, records)?;
         worklist.add_constants(alloc, p)?;
         worklist.add_known(p, planes);
         Ok(worklist)

@@ -1,4 +1,4 @@
-use Rattle.std.proofs.Common.{arith}
+use Rattle.std.proofs.Common.{arith, ◌∙◌}
 use Rattle.plain_close.proofs.Turning.{between-none, between-then, closure-is}
 use Rattle.plain_close.proofs.turns.turn_all.Goals as goal
 
@@ -16,3 +16,6 @@ returns-clause-closure c =
     closure-is c.args.p.now c.args.planes.now c.turn_to_next.new.planes c.turn_to_next.new.worklist
     (between-then c.args.p.now c.args.planes.now c.loop.planes c.turn_to_next.new.planes c.loop.worklist c.turn_to_next.new.worklist c.loop.invariant.0 c.in_ok-turn_to_next.ensures.between)
     (c.in_ok-turn_to_next.ensures.closed (c.has_added.ensures.no c.if-has_added.false))
+
+pub returns-clause-mark : goal.returns-clause-mark
+returns-clause-mark c = c.in_ok-turn_to_next.ensures.between.mark ∙ c.loop.invariant.0.mark

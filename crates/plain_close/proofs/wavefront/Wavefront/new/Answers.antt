@@ -10,7 +10,7 @@ returns-clause-wavefront c =
     let settled : IsSettled c.args.p.now c.in_ok-copy.field-0 c.in_ok-of_planes.field-0 = subst (λ (x : PlaneSet). IsSettled c.args.p.now x c.in_ok-of_planes.field-0) (sym c.in_ok-copy.ensures) c.in_ok-of_planes.ensures.settled in
     record {
       problem = c.in_ok-of_planes.ensures.problem;
-      of = subst (IsOf c.args.p.now) (sym c.in_ok-copy.ensures) c.requires;
+      of = subst (IsOf c.args.p.now) (sym c.in_ok-copy.ensures) (record { signals = c.requires.of.signals; chunks = c.requires.of.chunks; blocks = c.requires.of.blocks; no_later = c.requires.of.no_later });
       worklist = c.in_ok-of_planes.ensures.of;
       room = c.in_ok-new.ensures;
       size = c.in_ok-no_changes.ensures.size ∙ c.chunks.ensures.chunks;

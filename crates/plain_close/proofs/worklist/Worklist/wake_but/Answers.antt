@@ -3,7 +3,7 @@ use Rattle.plain_close.proofs.Listing.{woken-pushed_but, woken-within, before-la
 use Rattle.plain_close.proofs.worklist.Worklist.wake_but.Goals as goal
 
 pub add_before-requires-clause-later : goal.add_before-requires-clause-later
-add_before-requires-clause-later c = before-late c.args.self.now.records c.args.at.sig c.args.at.chunk c.args.fresh c.woken-woken.result.before c.woken-woken.ensures.before
+add_before-requires-clause-later c = before-late c.args.self.now.records.now c.args.at.sig c.args.at.chunk c.args.fresh c.woken-woken.result.before c.woken-woken.ensures.before
 
 pub add_all_but-requires-clause-signals : goal.add_all_but-requires-clause-signals
 add_all_but-requires-clause-signals c =
