@@ -9,7 +9,9 @@ use Rattle.ratio.specs.Ratio.{Counts, in_thousandths}
 use Rattle.report.specs.Clash.{clash_line}
 use Rattle.report.specs.declared.refusal.Part.TheVariants as parts
 use Rattle.report.specs.InputRefusals.{refused_line}
+use Rattle.greedy_select.specs.declared.picks.Pick.{Pick}
 use Rattle.report.specs.Load.{load_line}
+use Rattle.report.specs.Picks.{pick_line}
 use Rattle.report.specs.Table.{ratio_text}
 
 -- the pieces of the lines of refusals
@@ -37,3 +39,8 @@ pub load_joined : (number signals flip_flops : ℕ) (counts : Counts) (a b c d e
     → r ≡ ratio_text (in_thousandths counts.known counts.traced)
     → codes "load number " ++ (a ++ (codes " signals " ++ (b ++ (codes " flip_flops " ++ (c ++ (codes " traced " ++ (d ++ (codes " known " ++ (e ++ (codes " ratio " ++ (r ++ (codes "\n" ++ [])))))))))))) ≡ load_line number signals flip_flops counts
 load_joined number signals flip_flops counts a b c d e r is_a is_b is_c is_d is_e is_r = rw (is_a, is_b, is_c, is_d, is_e, is_r) (simp append_assoc)
+
+-- the pieces of the line of a pick
+pub pick_joined : (names : List (List ℕ)) (pick : Pick) (name a b r : List ℕ) → name ≡ get_or names pick.sig.0 [] → a ≡ decimal pick.ratio.known → b ≡ decimal pick.ratio.traced
+    → r ≡ ratio_text (in_thousandths pick.ratio.known pick.ratio.traced) → name ++ (codes " " ++ (a ++ (codes "/" ++ (b ++ (codes " " ++ (r ++ (codes "\n" ++ []))))))) ≡ pick_line names pick
+pick_joined names pick name a b r is_name is_a is_b is_r = rw (is_name, is_a, is_b, is_r) (simp append_assoc)

@@ -2,6 +2,7 @@ pub mod Clash
 pub mod InputRefusals
 pub mod Joined
 pub mod Laws
+pub mod Picks
 pub mod Refusals
 pub mod Rows
 pub mod Table

@@ -67,6 +67,9 @@ trace_twice_line name = codes "srestore: words: 27 trace twice " ++ name ++ code
 abbrev pub many_cells_line : ℕ → List ℕ
 many_cells_line product = codes "srestore: words: 17 too many cells " ++ decimal product ++ codes "\n"
 
+abbrev pub width_over_line : ℕ → List ℕ
+width_over_line flip_flops = codes "srestore: words: 25 width over " ++ decimal flip_flops ++ codes "\n"
+
 abbrev pub refusal_line : List (List ℕ) → Refusal → List ℕ
 refusal_line words (refusals.Bench refusal) = bench_line refusal
 refusal_line words (refusals.Net refusal) = net_line refusal
@@ -75,6 +78,7 @@ refusal_line words (refusals.Words refusal) = word_line words refusal
 refusal_line words (refusals.TooLong part) = too_long_line part
 refusal_line words (refusals.Fault part) = fault_line part
 refusal_line words (refusals.CellsByWords product) = many_cells_line product
+refusal_line words (refusals.WidthOver flip_flops) = width_over_line flip_flops
 refusal_line words (refusals.TraceUnknown place item) = unknown_trace_line (item_of words place item)
 refusal_line words (refusals.TraceTwice place item) = trace_twice_line (item_of words place item)
 refusal_line words refusals.NoMemory = no_memory_line

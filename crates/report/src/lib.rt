@@ -1,7 +1,7 @@
-//! Text out: tables, contradictions, load lines and refusals. No call takes memory, apart from the room of a row.
+//! Text out: tables, picks, contradictions, load lines and refusals. No call takes memory, apart from the room of a row.
 //!
-//! `table` writes a table from planes, each row made whole in the room of `row_buf`, with the ratio as `ratio_text` has it; `clash` writes the line of a
-//! contradiction, `load` that of a load netlist. `refusal` has every refusal that exists: `refusal_lines` writes those of a netlist and a dump,
+//! `table` writes a table from planes, each row made whole in the room of `row_buf`, with the ratio as `ratio_text` has it; `picks` writes a line
+//! for each pick, `clash` that of a contradiction, `load` that of a load netlist. `refusal` has every refusal that exists: `refusal_lines` writes those of a netlist and a dump,
 //! `word_lines` those of the words. All of it is put to a sink by `pieces`, and each contract gives the exact bytes, and a fault only where the sink
 //! counted one. `laws` says that a table is a dump, that it says only what holds, and that it makes the same rows again.
 //!
@@ -13,6 +13,7 @@
 mod clash;
 mod laws;
 mod load;
+mod picks;
 mod pieces;
 mod ratio_text;
 mod refusal;
@@ -26,6 +27,7 @@ mod word_lines;
 pub use clash::write_clash;
 pub use laws::table_laws;
 pub use load::write_load;
+pub use picks::write_picks;
 pub use refusal::{Part, Refusal, WordRefusal, write_refusal};
 pub use row_buf::RowBuf;
 pub use table::write_table;

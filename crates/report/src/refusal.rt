@@ -8,7 +8,7 @@ use crate::pieces::write_text;
 use crate::refusal_lines::{
     write_bench_refusal, write_dump_refusal, write_fault, write_net_refusal, write_too_long,
 };
-use crate::word_lines::{write_many_cells, write_name, write_word_refusal};
+use crate::word_lines::{write_many_cells, write_name, write_width_over, write_word_refusal};
 use bench_reader::BenchRefusal;
 use dump_reader::DumpRefusal;
 use netlist::NetRefusal;
@@ -48,6 +48,8 @@ pub enum Refusal {
     Fault(Part),
     /// The words ask for too many cells.
     CellsByWords { product: u64 },
+    /// More flip-flops are asked for than there are.
+    WidthOver { flip_flops: u32 },
     /// A name of the list is that of no signal.
     TraceUnknown { place: u32, item: u32 },
     /// A name of the list stands before in the list.
@@ -71,6 +73,7 @@ pub fn write_refusal<K: Sink>(r: &Refusal, words: &[String], out: &mut K) -> Res
         Refusal::TooLong(part) => write_too_long(out, *part),
         Refusal::Fault(part) => write_fault(out, *part),
         Refusal::CellsByWords { product } => write_many_cells(out, *product),
+        Refusal::WidthOver { flip_flops } => write_width_over(out, *flip_flops),
         Refusal::TraceUnknown { place, item } => write_name(out, unknown, words, *place, *item),
         Refusal::TraceTwice { place, item } => write_name(out, twice, words, *place, *item),
         Refusal::NoMemory => write_text(out, b"srestore: no memory\n"),

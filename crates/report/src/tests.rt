@@ -1,9 +1,14 @@
-//! Whole tables of what dumps record, with the text that was worked out by hand. Nothing is restored here: the cells that a dump tells are those that are known.
-use crate::{RowBuf, table_laws, write_table};
+//! Whole tables of what dumps record, and lines of picks, with the text that was worked out by hand. Nothing is restored here: the cells that a dump tells are those that are known.
+ghost use Rattle.std.specs.Prelude.{◌<◌, length};
+
+use crate::{RowBuf, table_laws, write_picks, write_table};
 use bench_reader::read_bench;
 use dump_reader::read_dump;
+use greedy_select::{Pick, Picks};
 use known_planes::seed;
 use netlist::{Netlist, build};
+use ratio::Ratio;
+use sr_model::Sig;
 use sr_outside::MemSink;
 use std::alloc::Global;
 use std::process::Abort;
@@ -129,4 +134,58 @@ fn too_little_room(rt: HostRuntime) -> Result<(), Fail> {
         expect(&rt, rt.alloc(), &net, &case)?;
     }
     Ok(())
+}
+
+/// The pick of a signal, with how many cells are known and how many are traced.
+fn pick(rt: &impl Abort, net: &Netlist, number: u32, known: u64, traced: u64) -> Pick
+    ensures { result.sig.0 < length net.now.drivers }
+{
+    assert!(rt; number < net.signals());
+    assert!(rt; known <= 1000);
+    assert!(rt; traced <= 1000);
+    Pick {
+        sig: Sig(number),
+        ratio: Ratio::new(known, traced),
+    }
+}
+
+/// The picks of `GATES` with these numbers and counts are written into so much room.
+fn expect_picks(
+    rt: &impl Abort,
+    alloc: Global,
+    numbers: &[(u32, u64, u64)],
+    room: u32,
+    want: (&[u8], bool),
+) -> Result<(), Fail> {
+    let net = netlist(alloc, GATES)?;
+    let mut picks = Picks::new(alloc);
+    for (number, known, traced) in numbers {
+        picks.push(pick(rt, &net, *number, *known, *traced))?;
+    }
+    let mut out = MemSink::new(alloc, room)?;
+    let answer = write_picks(&net, &picks, &mut out);
+    let (text, fits) = want;
+    assert_eq!(rt; out.bytes(), text);
+    assert_eq!(rt; answer.is_ok(), fits);
+    Ok(())
+}
+
+#[test]
+fn lines_of_picks(rt: HostRuntime) -> Result<(), Fail> {
+    let picks = [(2, 10, 4), (0, 11, 8), (4, 0, 0)];
+    expect_picks(&rt, rt.alloc(), &[], 1000, (b"", true))?;
+    expect_picks(
+        &rt,
+        rt.alloc(),
+        &picks,
+        1000,
+        (b"q 10/4 2.500\nr 11/8 1.375\nz 0/0 -\n", true),
+    )?;
+    expect_picks(
+        &rt,
+        rt.alloc(),
+        &picks,
+        20,
+        (b"q 10/4 2.500\nr 11/8 ", false),
+    )
 }

@@ -1,7 +1,7 @@
 //! The lines of what the words ask for and do not get.
 ghost use Rattle.std.specs.Prelude.{◌≡◌, ◌<◌, ◌++◌, [], codes, get_or, length, map};
 ghost use Rattle.std.specs.String.{string_bytes};
-ghost use Rattle.report.specs.Refusals.{HasItem, IsKeyed, WordIsThere, item_of, key_of, many_cells_line, listed_names, word_line};
+ghost use Rattle.report.specs.Refusals.{HasItem, IsKeyed, WordIsThere, item_of, key_of, many_cells_line, listed_names, width_over_line, word_line};
 ghost use Rattle.report.specs.Writes.{Writes};
 
 use crate::pieces::{digits, write_pieces, write_text};
@@ -54,6 +54,17 @@ pub(crate) fn write_many_cells<K: Sink>(out: &mut K, product: u64) -> Result<(),
     let mut buffer = Buffer::new();
     let number = digits(&mut buffer, product);
     write_pieces(out, &[start, number, end])
+}
+
+/// Writes that more flip-flops are asked for than there are.
+pub(crate) fn write_width_over<K: Sink>(out: &mut K, flip_flops: u32) -> Result<(), WriteFault>
+    ensures { Writes K.written K.room K.faults out.old out.new result (width_over_line flip_flops) }
+{
+    let start: &[u8] = b"srestore: words: 25 width over ";
+    let end: &[u8] = b"\n";
+    let mut buffer = Buffer::new();
+    let count = digits(&mut buffer, u64::from(flip_flops));
+    write_pieces(out, &[start, count, end])
 }
 
 /// The key of a word `key=value`.
