@@ -24,19 +24,22 @@ use Rattle.cycle_sim.specs.Drawing.{drawn_bit}
 use Rattle.cycle_sim.specs.Load.{IsLoadSize}
 use Rattle.cycle_sim.specs.Simulation.{traced_rows}
 use Rattle.cycle_sim.proofs.lemmas.Laws.{simulation_exists}
+use Rattle.greedy_select.proofs.lemmas.Laws.{picks_exist}
 use Rattle.report.specs.declared.refusal.Part.TheVariants as parts
 use Rattle.report.specs.declared.refusal.WordRefusal.TheVariants as word_refusals
 use Rattle.report.specs.Clash.{clash_line}
 use Rattle.report.specs.InputRefusals.{bench_line, dump_line, net_line, too_long_line}
 use Rattle.report.specs.Load.{load_line}
-use Rattle.report.specs.Refusals.{many_cells_line, trace_twice_line, unknown_trace_line, word_line}
+use Rattle.report.specs.Picks.{pick_lines}
+use Rattle.report.specs.Refusals.{many_cells_line, trace_twice_line, unknown_trace_line, width_over_line, word_line}
 use Rattle.report.specs.Table.{table_text}
 use Rattle.restore_program.specs.declared.status.Status.{Status}
 use Rattle.restore_program.specs.declared.status.Status.TheVariants as statuses
 use Rattle.restore_program.specs.Answer.{most_bytes, IsNetlistText, RefusedNetlist, netlist_too_long, bad_line, no_netlist, traced_count, OnDump, OnRecording, dump_too_long, bad_dump, clash, table, IsNetlistOf, OnNetlist, RequestAnswer, usage, bad_number, asked}
 use Rattle.restore_program.specs.AnswerLaws.{AnswerExists, IsServed}
 use Rattle.restore_program.specs.Loading.{IsLoadText, load_circuit, load_cycles, load_traced}
-use Rattle.restore_program.specs.Requests.{Request, Asks, restoration, simulation, printing, loading}
+use Rattle.restore_program.specs.Requests.{Request, Asks, restoration, selection, simulation, printing, loading}
+use Rattle.restore_program.specs.Selecting.{OnSelect, ranked, too_many_cells, width_over}
 use Rattle.restore_program.specs.Tracing.{IsDrawnRun, OnTrace, names_in, unknown_name, name_twice, many_cells, refused_cells, refused_names, traced}
 use Rattle.restore_program.proofs.AskedLoad.{load_size}
 use Rattle.restore_program.proofs.Files.{behind_netlist, first_file}
@@ -99,6 +102,18 @@ trace_decided c is cycles seed list = elim (names_decided c is (names_in list)) 
   ]
 ]
 
+selection_decided : (c : Circuit) → IsCircuit c → (width cycles seed : ℕ) → Some_text (OnSelect c width cycles seed)
+selection_decided c is width cycles seed = elim (cases_lt (length (flip_flops c.drivers)) width) [
+  | inl less ↦ (width_over_line (length (flip_flops c.drivers)), statuses.Words, width_over less)
+  | inr has ↦ elim (cases_lt max_blocks (block_count (length c.drivers) cycles)) [
+    | inl many ↦ (many_cells_line (block_count (length c.drivers) cycles), statuses.Dump, too_many_cells _ _ has (many_cells many))
+    | inr few ↦
+        let run = simulation_exists c is cycles (drawn_bit seed (length c.inputs)) in
+        let picks = picks_exist c cycles run.0 width has in
+        (pick_lines c.names picks.0, statuses.Done, ranked _ has few (record { run = run.0; is_run = run.1; picks = picks.0; width_is = picks.1; greedy = picks.2; text_is = refl }))
+  ]
+]
+
 load_text : (number signals : ℕ) → IsLoadSize signals → (text : List ℕ) × IsLoadText number signals text
 load_text number signals size = (
   load_line number signals (length (flip_flops c.drivers)) counts,
@@ -143,6 +158,7 @@ on_request held words (restoration netlist dump all) asks there = on_netlist hel
     let (bytes, there) = held_bytes (held dump) (there (parts.Dump, dump) (behind_netlist (Some held) netlist c _ _ is)) in
     let (text, status, on) = dump_decided c bytes all in
     (text, status, (bytes, there, on)))
+on_request held words (selection netlist width cycles seed) asks there = on_netlist held netlist _ (there (parts.Netlist, netlist) (first_file (Some held) _ _)) (λ c is circuit. selection_decided c circuit width cycles seed)
 on_request held words (simulation netlist cycles seed list) asks there = on_netlist held netlist _ (there (parts.Netlist, netlist) (first_file (Some held) _ _)) (λ c is circuit. trace_decided c circuit cycles seed list)
 on_request held words (printing netlist) asks there = on_netlist held netlist _ (there (parts.Netlist, netlist) (first_file (Some held) _ _)) (λ c is circuit. (bench_text c, statuses.Done, (refl, refl)))
 on_request held words (loading number signals) asks there =

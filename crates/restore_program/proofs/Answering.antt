@@ -252,6 +252,7 @@ says_refused words told shaky (refusals.Fault part) answer fault = (part, refl, 
 says_refused words told shaky refusals.NoMemory answer fault = refl
 says_refused words told shaky (refusals.Words r) answer fault = plainly words told (replies.Refused (refusals.Words r)) answer tt
 says_refused words told shaky (refusals.CellsByWords product) answer fault = plainly words told (replies.Refused (refusals.CellsByWords product)) answer tt
+says_refused words told shaky (refusals.WidthOver flip_flops) answer fault = plainly words told (replies.Refused (refusals.WidthOver flip_flops)) answer tt
 says_refused words told shaky (refusals.TraceUnknown place item) answer fault = plainly words told (replies.Refused (refusals.TraceUnknown place item)) answer tt
 says_refused words told shaky (refusals.TraceTwice place item) answer fault = plainly words told (replies.Refused (refusals.TraceTwice place item)) answer tt
 says_refused words told shaky (refusals.TooLong parts.Netlist) answer fault = plainly words told (replies.Refused (refusals.TooLong parts.Netlist)) answer tt
@@ -294,6 +295,7 @@ says words told shaky (replies.Refused r) ready answer fault = says_refused word
 says words told shaky (replies.Known t) ready answer fault = plainly words told (replies.Known t) answer tt
 says words told shaky (replies.Clash n cell) ready answer fault = plainly words told (replies.Clash n cell) answer tt
 says words told shaky (replies.Text text status) ready answer fault = says_text words told shaky text status ready answer
+says words told shaky (replies.Ranking ranked) ready answer fault = plainly words told (replies.Ranking ranked) answer tt
 says words told shaky (replies.Load loaded) ready answer fault = plainly words told (replies.Load loaded) answer tt
 
 -- a netlist that is held is refused by its text

@@ -2,6 +2,7 @@ mod AnswerExists
 mod Answering
 mod AskedLoad
 mod AskedRestore
+mod AskedSelection
 mod AskedSimulation
 mod BadNumbers
 mod CommandShapes
@@ -21,11 +22,13 @@ mod NamesDecided
 mod OneAnswer
 mod OneLoad
 mod OneMeaning
+mod OneRanking
 mod OneRequest
 mod OneRun
 mod OneTrace
 mod Outcomes
 mod Prepared
+mod Rankings
 mod Reading
 mod SameTests
 mod SimulatedTraces

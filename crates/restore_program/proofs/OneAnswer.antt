@@ -32,11 +32,13 @@ use Rattle.restore_program.specs.declared.status.Status.{Status}
 use Rattle.restore_program.specs.declared.status.Status.TheVariants as statuses
 use Rattle.restore_program.specs.Answer.{most_bytes, IsNetlistText, RefusedNetlist, netlist_too_long, bad_line, no_netlist, IsClashOf, IsDumpText, KnownFrom, traced_count, OnDump, OnRecording, RefusedDump, dump_too_long, bad_dump, clash, table, IsNetlistOf, OnNetlist, OnPrint, OnRefused, DumpAnswer, RequestAnswer, Answer, usage, bad_number, asked}
 use Rattle.restore_program.specs.AnswerLaws.{HasOneAnswer, AcceptedIsCompleted}
-use Rattle.restore_program.specs.Requests.{Request, Asks, restoration, simulation, printing, loading}
+use Rattle.restore_program.specs.Requests.{Request, Asks, restoration, selection, simulation, printing, loading}
 use Rattle.restore_program.specs.Sound.{IsAccepted, IsCompleted}
+use Rattle.restore_program.specs.Selecting.{OnSelect}
 use Rattle.restore_program.specs.Tracing.{OnTrace}
 use Rattle.restore_program.proofs.OneLoad.{one_load_text}
 use Rattle.restore_program.proofs.OneMeaning.{one_bad}
+use Rattle.restore_program.proofs.OneRanking.{one_on_select, ranked_done}
 use Rattle.restore_program.proofs.OneRequest.{asked_command, asked_good, one_request}
 use Rattle.restore_program.proofs.OneTrace.{one_on_trace, traced_done}
 use Rattle.restore_program.proofs.SameTests.{same_test}
@@ -217,6 +219,7 @@ one_print c text other status last (e, done) (e', done') = (e ∙ sym e', done �
 
 one_to_request : (held : Held) (request : Request) (text other : List ℕ) (status last : Status) → RequestAnswer held request text status → RequestAnswer held request other last → (text ≡ other) × (status ≡ last)
 one_to_request held (restoration netlist dump all) = one_on_netlist held netlist (λ c. DumpAnswer held c dump all) (λ c text other status last is. one_to_dump held c dump all text other status last is)
+one_to_request held (selection netlist width cycles seed) = one_on_netlist held netlist (λ c. OnSelect c width cycles seed) (λ c. one_on_select c width cycles seed)
 one_to_request held (simulation netlist cycles seed list) = one_on_netlist held netlist (λ c. OnTrace c cycles seed list) (λ c text other status last is. one_on_trace c cycles seed list text other status last is)
 one_to_request held (printing netlist) = one_on_netlist held netlist OnPrint (λ c text other status last is. one_print c text other status last)
 one_to_request held (loading number signals) = λ text other status last first second. (one_load_text number signals text other first.0 second.0, first.1 ∙ sym second.1)
@@ -256,6 +259,8 @@ completed held (restoration netlist dump all) text status (c, files, _) answer =
     let (bytes, d, there, is_dump) = files 1 (parts.Dump, dump) (lit< tt) in
     let (again, there_again, on) = on_this_netlist held netlist (λ n. DumpAnswer held n dump all) c text status is answer in
     dump_completed c bytes d all text status (is_circuit is.0 c is.2) is_dump (subst (λ b. OnDump c b all text status) (same_held held dump again bytes there_again there) on)
+completed held (selection netlist width cycles seed) text status (c, files, (has, few)) answer =
+    ranked_done c width cycles seed text status has few (on_this_netlist held netlist (λ c. OnSelect c width cycles seed) c text status (files 0 (parts.Netlist, netlist) (lit< tt)) answer)
 completed held (simulation netlist cycles seed list) text status (c, files, (sigs, named, few)) answer =
     traced_done c cycles seed list text status sigs named few (on_this_netlist held netlist (λ c. OnTrace c cycles seed list) c text status (files 0 (parts.Netlist, netlist) (lit< tt)) answer)
 completed held (printing netlist) text status (c, files, _) answer = (on_this_netlist held netlist OnPrint c text status (files 0 (parts.Netlist, netlist) (lit< tt)) answer).1

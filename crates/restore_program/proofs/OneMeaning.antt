@@ -11,11 +11,11 @@ use Rattle.restore_program.specs.declared.words.Settings.{Settings}
 use Rattle.restore_program.specs.declared.words.Settings.TheVariants as settings
 use Rattle.report.specs.declared.refusal.WordRefusal.{WordRefusal}
 use Rattle.report.specs.declared.refusal.WordRefusal.TheVariants as refusals
-use Rattle.restore_program.specs.Words.{CommandRule, command_rules, Gives, GivesAt, IsBad, IsBadAt, IsBadNumber, IsCommand, IsFirstBad, IsFor, IsGiven, IsGivenRight, IsNumber, IsPrint, IsShaped, KeyRule, Loads, Restores, Simulates, Takes, choice, cycles_rule, later, load_rule, names, number, number_rule, print_rule, restore_rule, seed_rule, signals_rule, simulate_rule, trace_rule}
+use Rattle.restore_program.specs.Words.{CommandRule, command_rules, Gives, GivesAt, IsBad, IsBadAt, IsBadNumber, IsCommand, IsFirstBad, IsFor, IsGiven, IsGivenRight, IsNumber, IsPrint, IsShaped, KeyRule, Loads, Restores, Simulates, Takes, choice, cycles_rule, later, load_rule, names, number, number_rule, print_rule, restore_rule, seed_rule, select_rule, Selects, signals_rule, simulate_rule, trace_rule, width_rule}
 use Rattle.restore_program.specs.WordMeaning.{Means}
 use Rattle.restore_program.proofs.GivenValues.{same_gift}
 use Rattle.std.specs.Str.{bytes_eq}
-use Rattle.restore_program.proofs.CommandShapes.{load_is_one, not_both, one_command, print_is_one, restore_is_one, shaped_command, simulate_is_one}
+use Rattle.restore_program.proofs.CommandShapes.{load_is_one, not_both, one_command, print_is_one, restore_is_one, select_is_one, shaped_command, simulate_is_one}
 
 -- ---- a key is given in one place
 
@@ -145,6 +145,36 @@ one_simulation words netlist more cycles seed trace cycles' seed' trace' is othe
   same_place simulate_rule words trace_rule trace trace' is.has_trace.0 other.has_trace.0 (given_trace words is.shaped) is.has_trace.1 other.has_trace.1,
 )
 
+-- ---- the keys of `select`
+
+module _ (words : List (List ℕ)) (shaped : IsShaped select_rule words) where
+  pub given_width : IsGivenRight (later select_rule words) width_rule
+  given_width = shaped.given 0 width_rule (lit< tt)
+
+  pub given_run : IsGivenRight (later select_rule words) cycles_rule × IsGivenRight (later select_rule words) seed_rule
+  given_run = (shaped.given 1 cycles_rule (lit< tt), shaped.given 2 seed_rule (lit< tt))
+
+pub select_or_bad : (words : List (List ℕ)) (netlist : List ℕ) (width cycles seed place : ℕ) → Selects words netlist width cycles seed → ¬ IsBadAt select_rule words place
+select_or_bad words netlist width cycles seed place is (zero, key, h, e, (value, gives, bad)) =
+    let bad_there = subst (λ k. GivesAt select_rule words place k value × IsBad k.takes value) (sym e) (gives, bad) in
+    good_number select_rule words width_rule width place value (given_width words is.shaped) is.has_width bad_there.0 bad_there.1
+select_or_bad words netlist width cycles seed place is (suc zero, key, h, e, (value, gives, bad)) =
+    let bad_there = subst (λ k. GivesAt select_rule words place k value × IsBad k.takes value) (sym e) (gives, bad) in
+    good_number select_rule words cycles_rule cycles place value (given_run words is.shaped).0 is.has_cycles bad_there.0 bad_there.1
+select_or_bad words netlist width cycles seed place is (suc (suc zero), key, h, e, (value, gives, bad)) =
+    let bad_there = subst (λ k. GivesAt select_rule words place k value × IsBad k.takes value) (sym e) (gives, bad) in
+    good_number select_rule words seed_rule seed place value (given_run words is.shaped).1 is.has_seed bad_there.0 bad_there.1
+select_or_bad words netlist width cycles seed place is (suc (suc (suc k)), key, h, e, more) = absurd (omega arith)
+
+pub one_selection : (words : List (List ℕ)) (netlist more : List ℕ) (width cycles seed width' cycles' seed' : ℕ) → Selects words netlist width cycles seed → Selects words more width' cycles' seed'
+    → (netlist ≡ more) × (width ≡ width') × (cycles ≡ cycles') × (seed ≡ seed')
+one_selection words netlist more width cycles seed width' cycles' seed' is other = (
+  same_Some netlist more (sym is.is_netlist ∙ other.is_netlist),
+  one_number select_rule words width_rule 1 max_signals width width' (given_width words is.shaped) refl (lit< tt) is.has_width other.has_width,
+  one_number select_rule words cycles_rule 1 max_cycles cycles cycles' (given_run words is.shaped).0 refl (lit< tt) is.has_cycles other.has_cycles,
+  one_number select_rule words seed_rule 0 (2 ^ 64 - 1) seed seed' (given_run words is.shaped).1 refl (lit< tt) is.has_seed other.has_seed,
+)
+
 -- ---- the keys of `load`
 
 given_number_key : (words : List (List ℕ)) → IsShaped load_rule words → IsGivenRight (later load_rule words) number_rule
@@ -172,18 +202,21 @@ one_load words n signals n' signals' is other = (
 
 abbrev settings_rule : Settings → CommandRule
 settings_rule (settings.Restore all) = restore_rule
+settings_rule (settings.Select width cycles seed) = select_rule
 settings_rule (settings.Simulate cycles seed trace) = simulate_rule
 settings_rule settings.Print = print_rule
 settings_rule (settings.Load n signals) = load_rule
 
 settings_is_one : (s : Settings) → Contains command_rules (settings_rule s)
 settings_is_one (settings.Restore all) = restore_is_one
+settings_is_one (settings.Select width cycles seed) = select_is_one
 settings_is_one (settings.Simulate cycles seed trace) = simulate_is_one
 settings_is_one settings.Print = print_is_one
 settings_is_one (settings.Load n signals) = load_is_one
 
 settings_shape : (words : List (List ℕ)) (s : Settings) → Means words (Ok s) → IsShaped (settings_rule s) words
 settings_shape words (settings.Restore all) is = is.2.shaped
+settings_shape words (settings.Select width cycles seed) is = is.1.shaped
 settings_shape words (settings.Simulate cycles seed trace) is = is.1.shaped
 settings_shape words settings.Print is = is.1.shaped
 settings_shape words (settings.Load n signals) is = is.shaped
@@ -194,6 +227,7 @@ settings_command words s is = shaped_command (settings_rule s) words (settings_i
 -- and no number of them is bad
 never_bad : (words : List (List ℕ)) (s : Settings) (place : ℕ) → Means words (Ok s) → ¬ IsBadAt (settings_rule s) words place
 never_bad words (settings.Restore all) place is = restore_never_bad words place
+never_bad words (settings.Select width cycles seed) place is = select_or_bad words is.0 width cycles seed place is.1
 never_bad words (settings.Simulate cycles seed trace) place is = simulate_or_bad words is.0 cycles seed trace place is.1
 never_bad words settings.Print place is = print_never_bad words place
 never_bad words (settings.Load n signals) place is = load_never_bad words n signals place is
@@ -203,6 +237,9 @@ good_settings words s place is bad = never_bad words s place is (bad_of (setting
 
 same_restore : (all other : Bool) → all ≡ other → settings.Restore all ≡ settings.Restore other
 same_restore all other e = ap settings.Restore e
+
+same_select : (width cycles seed width' cycles' seed' : ℕ) → (width ≡ width') × (cycles ≡ cycles') × (seed ≡ seed') → settings.Select width cycles seed ≡ settings.Select width' cycles' seed'
+same_select width cycles seed width' cycles' seed' e = let a = e.0 in let b = e.1 in let d = e.2 in cc
 
 same_simulate : (cycles seed trace cycles' seed' trace' : ℕ) → (cycles ≡ cycles') × (seed ≡ seed') × (trace ≡ trace') → settings.Simulate cycles seed trace ≡ settings.Simulate cycles' seed' trace'
 same_simulate cycles seed trace cycles' seed' trace' e = let a = e.0 in let b = e.1 in let d = e.2 in cc
@@ -215,21 +252,31 @@ never_both words s t apart is other = not_both (settings_rule s) (settings_rule 
 
 one_settings : (words : List (List ℕ)) (s t : Settings) → Means words (Ok s) → Means words (Ok t) → s ≡ t
 one_settings words (settings.Restore all) (settings.Restore more) is other = same_restore all more (one_restore words is.0 is.1 other.0 other.1 all more is.2 other.2).2
+one_settings words (settings.Select width cycles seed) (settings.Select width' cycles' seed') is other =
+    let same = one_selection words is.0 other.0 width cycles seed width' cycles' seed' is.1 other.1 in same_select width cycles seed width' cycles' seed' (same.1, same.2, same.3)
 one_settings words (settings.Simulate cycles seed trace) (settings.Simulate cycles' seed' trace') is other =
     same_simulate cycles seed trace cycles' seed' trace' (one_simulation words is.0 other.0 cycles seed trace cycles' seed' trace' is.1 other.1)
 one_settings words settings.Print settings.Print is other = refl
 one_settings words (settings.Load n signals) (settings.Load n' signals') is other = same_load n signals n' signals' (one_load words n signals n' signals' is other)
-one_settings words (settings.Restore all) (settings.Simulate cycles seed trace) is other = absurd (never_both words (settings.Restore all) (settings.Simulate cycles seed trace) refl is other)
+one_settings words (settings.Restore all) (settings.Select width' cycles' seed') is other = absurd (never_both words (settings.Restore all) (settings.Select width' cycles' seed') refl is other)
+one_settings words (settings.Restore all) (settings.Simulate cycles' seed' trace') is other = absurd (never_both words (settings.Restore all) (settings.Simulate cycles' seed' trace') refl is other)
 one_settings words (settings.Restore all) settings.Print is other = absurd (never_both words (settings.Restore all) settings.Print refl is other)
-one_settings words (settings.Restore all) (settings.Load n signals) is other = absurd (never_both words (settings.Restore all) (settings.Load n signals) refl is other)
-one_settings words (settings.Simulate cycles seed trace) (settings.Restore all) is other = absurd (never_both words (settings.Simulate cycles seed trace) (settings.Restore all) refl is other)
+one_settings words (settings.Restore all) (settings.Load n' signals') is other = absurd (never_both words (settings.Restore all) (settings.Load n' signals') refl is other)
+one_settings words (settings.Select width cycles seed) (settings.Restore all') is other = absurd (never_both words (settings.Select width cycles seed) (settings.Restore all') refl is other)
+one_settings words (settings.Select width cycles seed) (settings.Simulate cycles' seed' trace') is other = absurd (never_both words (settings.Select width cycles seed) (settings.Simulate cycles' seed' trace') refl is other)
+one_settings words (settings.Select width cycles seed) settings.Print is other = absurd (never_both words (settings.Select width cycles seed) settings.Print refl is other)
+one_settings words (settings.Select width cycles seed) (settings.Load n' signals') is other = absurd (never_both words (settings.Select width cycles seed) (settings.Load n' signals') refl is other)
+one_settings words (settings.Simulate cycles seed trace) (settings.Restore all') is other = absurd (never_both words (settings.Simulate cycles seed trace) (settings.Restore all') refl is other)
+one_settings words (settings.Simulate cycles seed trace) (settings.Select width' cycles' seed') is other = absurd (never_both words (settings.Simulate cycles seed trace) (settings.Select width' cycles' seed') refl is other)
 one_settings words (settings.Simulate cycles seed trace) settings.Print is other = absurd (never_both words (settings.Simulate cycles seed trace) settings.Print refl is other)
-one_settings words (settings.Simulate cycles seed trace) (settings.Load n signals) is other = absurd (never_both words (settings.Simulate cycles seed trace) (settings.Load n signals) refl is other)
-one_settings words settings.Print (settings.Restore all) is other = absurd (never_both words settings.Print (settings.Restore all) refl is other)
-one_settings words settings.Print (settings.Simulate cycles seed trace) is other = absurd (never_both words settings.Print (settings.Simulate cycles seed trace) refl is other)
-one_settings words settings.Print (settings.Load n signals) is other = absurd (never_both words settings.Print (settings.Load n signals) refl is other)
-one_settings words (settings.Load n signals) (settings.Restore all) is other = absurd (never_both words (settings.Load n signals) (settings.Restore all) refl is other)
-one_settings words (settings.Load n signals) (settings.Simulate cycles seed trace) is other = absurd (never_both words (settings.Load n signals) (settings.Simulate cycles seed trace) refl is other)
+one_settings words (settings.Simulate cycles seed trace) (settings.Load n' signals') is other = absurd (never_both words (settings.Simulate cycles seed trace) (settings.Load n' signals') refl is other)
+one_settings words settings.Print (settings.Restore all') is other = absurd (never_both words settings.Print (settings.Restore all') refl is other)
+one_settings words settings.Print (settings.Select width' cycles' seed') is other = absurd (never_both words settings.Print (settings.Select width' cycles' seed') refl is other)
+one_settings words settings.Print (settings.Simulate cycles' seed' trace') is other = absurd (never_both words settings.Print (settings.Simulate cycles' seed' trace') refl is other)
+one_settings words settings.Print (settings.Load n' signals') is other = absurd (never_both words settings.Print (settings.Load n' signals') refl is other)
+one_settings words (settings.Load n signals) (settings.Restore all') is other = absurd (never_both words (settings.Load n signals) (settings.Restore all') refl is other)
+one_settings words (settings.Load n signals) (settings.Select width' cycles' seed') is other = absurd (never_both words (settings.Load n signals) (settings.Select width' cycles' seed') refl is other)
+one_settings words (settings.Load n signals) (settings.Simulate cycles' seed' trace') is other = absurd (never_both words (settings.Load n signals) (settings.Simulate cycles' seed' trace') refl is other)
 one_settings words (settings.Load n signals) settings.Print is other = absurd (never_both words (settings.Load n signals) settings.Print refl is other)
 
 -- words have one meaning at most
@@ -254,6 +301,7 @@ ComesWith r s P = (r ≡ s → P) × (P → r ≡ s)
 abbrev pub IsExact : List (List ℕ) → Result Settings WordRefusal → Type 0
 IsExact words r = record {
   restore : (all : Bool) → ComesWith r (Ok (settings.Restore all)) ((netlist dump : List ℕ) × Restores words netlist dump all);
+  select : (width cycles seed : ℕ) → ComesWith r (Ok (settings.Select width cycles seed)) ((netlist : List ℕ) × Selects words netlist width cycles seed);
   simulate : (cycles seed trace : ℕ) → ComesWith r (Ok (settings.Simulate cycles seed trace)) ((netlist : List ℕ) × Simulates words netlist cycles seed trace);
   print : ComesWith r (Ok settings.Print) (IsPrint words);
   load : (number signals : ℕ) → ComesWith r (Ok (settings.Load number signals)) (Loads words number signals);
@@ -267,6 +315,7 @@ exactly words r s is = (λ e. subst (Means words) e is, λ other. one_meaning wo
 pub exact_answer : (words : List (List ℕ)) (r : Result Settings WordRefusal) → Means words r → IsExact words r
 exact_answer words r is = record {
   restore = λ all. exactly words r (Ok (settings.Restore all)) is;
+  select = λ width cycles seed. exactly words r (Ok (settings.Select width cycles seed)) is;
   simulate = λ cycles seed trace. exactly words r (Ok (settings.Simulate cycles seed trace)) is;
   print = exactly words r (Ok settings.Print) is;
   load = λ n signals. exactly words r (Ok (settings.Load n signals)) is;

@@ -4,15 +4,16 @@ use Rattle.std.specs.Prelude.{Contains}
 use Rattle.std.specs.Str.{bytes_eq}
 use Rattle.std.proofs.lemmas.Option.{same_Some}
 use Rattle.restore_program.specs.Faults.{AreRefused}
-use Rattle.restore_program.specs.Requests.{Request, Asks, Traces, restoration, simulation, printing, loading, rule_of}
+use Rattle.restore_program.specs.Requests.{Request, Asks, Traces, restoration, selection, simulation, printing, loading, rule_of}
 use Rattle.restore_program.specs.Words.{IsBadAt, IsBadNumber, IsCommand, IsShaped, command_rules, simulate_rule, trace_rule}
-use Rattle.restore_program.proofs.CommandShapes.{load_is_one, not_both, print_is_one, restore_is_one, shaped_command, simulate_is_one}
-use Rattle.restore_program.proofs.OneMeaning.{bad_of, given_trace, load_never_bad, one_load, one_restore, one_simulation, print_never_bad, restore_never_bad, same_value, simulate_or_bad}
+use Rattle.restore_program.proofs.CommandShapes.{load_is_one, not_both, print_is_one, restore_is_one, select_is_one, shaped_command, simulate_is_one}
+use Rattle.restore_program.proofs.OneMeaning.{bad_of, given_trace, load_never_bad, one_load, one_restore, one_selection, one_simulation, print_never_bad, restore_never_bad, same_value, select_or_bad, simulate_or_bad}
 
 -- ---- by the table
 
 is_one : (request : Request) → Contains command_rules (rule_of request)
 is_one (restoration n d all) = restore_is_one
+is_one (selection n width cycles seed) = select_is_one
 is_one (simulation n cycles seed list) = simulate_is_one
 is_one (printing n) = print_is_one
 is_one (loading number signals) = load_is_one
@@ -20,6 +21,7 @@ is_one (loading number signals) = load_is_one
 -- the words have the shape of its command
 asked_shape : (words : List (List ℕ)) (request : Request) → Asks words request → IsShaped (rule_of request) words
 asked_shape words (restoration n d all) asks = asks.shaped
+asked_shape words (selection n width cycles seed) asks = asks.shaped
 asked_shape words (simulation n cycles seed list) (place, run, gives) = run.shaped
 asked_shape words (printing n) asks = asks.shaped
 asked_shape words (loading number signals) asks = asks.shaped
@@ -30,6 +32,7 @@ asked_command words request asks = shaped_command (rule_of request) words (is_on
 -- and no number of them is bad
 never_bad : (words : List (List ℕ)) (request : Request) (place : ℕ) → Asks words request → ¬ IsBadAt (rule_of request) words place
 never_bad words (restoration n d all) place asks = restore_never_bad words place
+never_bad words (selection n width cycles seed) place asks = select_or_bad words n width cycles seed place asks
 never_bad words (simulation n cycles seed list) place (own, run, gives) = simulate_or_bad words n cycles seed own place run
 never_bad words (printing n) place asks = print_never_bad words place
 never_bad words (loading number signals) place asks = load_never_bad words number signals place asks
@@ -61,21 +64,32 @@ pub one_request : (words : List (List ℕ)) (a b : Request) → Asks words a →
 one_request words (restoration n d all) (restoration n' d' all') a b =
     let same = one_restore words n d n' d' all all' a b in
     ap (λ x. restoration x d all) same.0 ∙ ap (λ x. restoration n' x all) same.1 ∙ ap (λ x. restoration n' d' x) same.2
+one_request words (selection n width cycles seed) (selection n' width' cycles' seed') a b =
+    let same = one_selection words n n' width cycles seed width' cycles' seed' a b in
+    ap (λ x. selection x width cycles seed) same.0 ∙ ap (λ x. selection n' x cycles seed) same.1 ∙ ap (λ x. selection n' width' x seed) same.2 ∙ ap (λ x. selection n' width' cycles' x) same.3
 one_request words (simulation n cycles seed list) (simulation n' cycles' seed' list') a b =
     let same = same_run words n n' cycles seed cycles' seed' list list' a b in
     ap (λ x. simulation x cycles seed list) same.0 ∙ ap (λ x. simulation n' x seed list) same.1 ∙ ap (λ x. simulation n' cycles' x list) same.2 ∙ ap (λ x. simulation n' cycles' seed' x) same.3
 one_request words (printing n) (printing n') a b = ap printing (same_Some n n' (sym a.is_netlist ∙ b.is_netlist))
 one_request words (loading number signals) (loading number' signals') a b =
     let same = one_load words number signals number' signals' a b in ap (λ x. loading x signals) same.0 ∙ ap (λ x. loading number' x) same.1
+one_request words (restoration n d all) (selection n' width' cycles' seed') a b = absurd (never_both words (restoration n d all) (selection n' width' cycles' seed') refl a b)
 one_request words (restoration n d all) (simulation n' cycles' seed' list') a b = absurd (never_both words (restoration n d all) (simulation n' cycles' seed' list') refl a b)
 one_request words (restoration n d all) (printing n') a b = absurd (never_both words (restoration n d all) (printing n') refl a b)
 one_request words (restoration n d all) (loading number' signals') a b = absurd (never_both words (restoration n d all) (loading number' signals') refl a b)
+one_request words (selection n width cycles seed) (restoration n' d' all') a b = absurd (never_both words (selection n width cycles seed) (restoration n' d' all') refl a b)
+one_request words (selection n width cycles seed) (simulation n' cycles' seed' list') a b = absurd (never_both words (selection n width cycles seed) (simulation n' cycles' seed' list') refl a b)
+one_request words (selection n width cycles seed) (printing n') a b = absurd (never_both words (selection n width cycles seed) (printing n') refl a b)
+one_request words (selection n width cycles seed) (loading number' signals') a b = absurd (never_both words (selection n width cycles seed) (loading number' signals') refl a b)
 one_request words (simulation n cycles seed list) (restoration n' d' all') a b = absurd (never_both words (simulation n cycles seed list) (restoration n' d' all') refl a b)
+one_request words (simulation n cycles seed list) (selection n' width' cycles' seed') a b = absurd (never_both words (simulation n cycles seed list) (selection n' width' cycles' seed') refl a b)
 one_request words (simulation n cycles seed list) (printing n') a b = absurd (never_both words (simulation n cycles seed list) (printing n') refl a b)
 one_request words (simulation n cycles seed list) (loading number' signals') a b = absurd (never_both words (simulation n cycles seed list) (loading number' signals') refl a b)
 one_request words (printing n) (restoration n' d' all') a b = absurd (never_both words (printing n) (restoration n' d' all') refl a b)
+one_request words (printing n) (selection n' width' cycles' seed') a b = absurd (never_both words (printing n) (selection n' width' cycles' seed') refl a b)
 one_request words (printing n) (simulation n' cycles' seed' list') a b = absurd (never_both words (printing n) (simulation n' cycles' seed' list') refl a b)
 one_request words (printing n) (loading number' signals') a b = absurd (never_both words (printing n) (loading number' signals') refl a b)
 one_request words (loading number signals) (restoration n' d' all') a b = absurd (never_both words (loading number signals) (restoration n' d' all') refl a b)
+one_request words (loading number signals) (selection n' width' cycles' seed') a b = absurd (never_both words (loading number signals) (selection n' width' cycles' seed') refl a b)
 one_request words (loading number signals) (simulation n' cycles' seed' list') a b = absurd (never_both words (loading number signals) (simulation n' cycles' seed' list') refl a b)
 one_request words (loading number signals) (printing n') a b = absurd (never_both words (loading number signals) (printing n') refl a b)

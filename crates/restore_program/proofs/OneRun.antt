@@ -11,7 +11,7 @@ use Rattle.cycle_sim.proofs.lemmas.Laws.{simulations_agree, traces_agree}
 use Rattle.restore_program.specs.Tracing.{IsDrawnRun}
 
 -- an execution with drawn bits on the inputs is the seed's run
-drawn_run : (c : Circuit) (seed cycles count : ℕ) (given : ℕ → ℕ → Bool) (v : Valuation) → count ≡ cycles → AreDrawn seed (length c.inputs) cycles given → IsSimulated c count given v → IsDrawnRun c seed cycles v
+pub drawn_run : (c : Circuit) (seed cycles count : ℕ) (given : ℕ → ℕ → Bool) (v : Valuation) → count ≡ cycles → AreDrawn seed (length c.inputs) cycles given → IsSimulated c count given v → IsDrawnRun c seed cycles v
 drawn_run c seed cycles count given v same drawn sim = record {
   execution = subst (λ n. IsExecution (unrolled_over c n) v) same sim.execution;
   inputs = λ cycle j early within. sim.inputs cycle j (subst (λ n. cycle < n) (sym same) early) within ∙ drawn cycle j early within;

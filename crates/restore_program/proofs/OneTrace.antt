@@ -148,11 +148,11 @@ refused-or-named : (c : Circuit) (names : List (List ℕ)) (text : List ℕ) (st
 refused-or-named c names text status sigs named (unknown_name x unknown) = unknown-or-named c names x sigs named unknown
 refused-or-named c names text status sigs named (name_twice x twice) = twice-or-named c names x sigs named twice
 
-one_refused_count : (signals cycles : ℕ) (text other : List ℕ) (status last : Status) → RefusedCells signals cycles text status → RefusedCells signals cycles other last → (text ≡ other) × (status ≡ last)
+pub one_refused_count : (signals cycles : ℕ) (text other : List ℕ) (status last : Status) → RefusedCells signals cycles text status → RefusedCells signals cycles other last → (text ≡ other) × (status ≡ last)
 one_refused_count signals cycles text other status last (many_cells many) (many_cells many_too) = (refl, refl)
 
 -- no count of cells is both too many and not
-refused-or-few : (signals cycles : ℕ) (text : List ℕ) (status : Status) → block_count signals cycles ≤ max_blocks → ¬ RefusedCells signals cycles text status
+pub refused-or-few : (signals cycles : ℕ) (text : List ℕ) (status : Status) → block_count signals cycles ≤ max_blocks → ¬ RefusedCells signals cycles text status
 refused-or-few signals cycles text status few (many_cells many) = omega (arith, many, few)
 
 pub one_on_trace : (c : Circuit) (cycles seed : ℕ) (list text other : List ℕ) (status last : Status) → IsCircuit c → OnTrace c cycles seed list text status → OnTrace c cycles seed list other last → (text ≡ other) × (status ≡ last)

@@ -22,6 +22,7 @@ prepared_status (replies.Known table) prepared (inr (_, none)) e = absurd cc
 prepared_status (replies.Refused r) prepared (inr (other, none)) e = absurd other
 prepared_status (replies.Clash n cell) prepared (inr (other, none)) e = absurd other
 prepared_status (replies.Text text status) prepared (inr (other, none)) e = absurd other
+prepared_status (replies.Ranking ranked) prepared (inr (other, none)) e = absurd other
 prepared_status (replies.Load loaded) prepared (inr (other, none)) e = absurd other
 
 -- and none says that a part was not read
@@ -31,4 +32,5 @@ prepared_fault (replies.Known table) prepared (inr (_, none)) = ap fault_of none
 prepared_fault (replies.Refused r) prepared (inr (other, none)) = absurd other
 prepared_fault (replies.Clash n cell) prepared (inr (other, none)) = absurd other
 prepared_fault (replies.Text text status) prepared (inr (other, none)) = absurd other
+prepared_fault (replies.Ranking ranked) prepared (inr (other, none)) = absurd other
 prepared_fault (replies.Load loaded) prepared (inr (other, none)) = absurd other

@@ -13,13 +13,14 @@ use Rattle.restore_program.specs.declared.status.Status.{Status}
 use Rattle.restore_program.specs.declared.status.Status.TheVariants as statuses
 use Rattle.restore_program.specs.declared.reply.Reply.{Reply}
 use Rattle.restore_program.specs.Reply.{text_of, status_of}
-use Rattle.restore_program.specs.Requests.{Asks, Request, restoration, simulation, printing, loading}
+use Rattle.restore_program.specs.Requests.{Asks, Request, restoration, selection, simulation, printing, loading}
 use Rattle.restore_program.specs.Words.{Restores, IsRestore}
 use Rattle.restore_program.specs.Answer.{Answer, usage, bad_number, asked, netlist_too_long, bad_line, no_netlist, OnNetlist, OnRefused, IsNetlistOf, DumpAnswer, IsDumpText, OnRecording, RefusedDump, dump_too_long, bad_dump, clash, table, traced_count}
 use Rattle.restore_program.specs.Faults.{TellsEnough}
 use Rattle.restore_program.specs.ReplyAnswers.{ReplyAnswer}
 use Rattle.restore_program.specs.Status.{IsPlain}
 use Rattle.restore_program.specs.Sound.{Accepts, IsAccepted, IsCompleted, IsDumpAgain, IsSoundTable, NoneMatches}
+use Rattle.restore_program.specs.Selecting.{OnSelect, ranked, too_many_cells, width_over}
 use Rattle.restore_program.specs.Tracing.{OnTrace, unknown_name, name_twice, many_cells, refused_cells, refused_names, traced}
 use Rattle.restore_program.proofs.OneAnswer.{accepted_is_completed, answer_to, clash_known, is_circuit}
 
@@ -87,6 +88,11 @@ sound_answer words held text status (netlist, dump, all, asks) answer e = on (an
 
 -- ---- a contradiction
 
+no_clash_ranking : (c : Circuit) (width cycles seed : ℕ) (text : List ℕ) (status : Status) → OnSelect c width cycles seed text status → status ≡ statuses.Contradiction → ⊥
+no_clash_ranking c width cycles seed text status (width_over less) e = cc
+no_clash_ranking c width cycles seed text status (too_many_cells _ _ has (many_cells many)) e = cc
+no_clash_ranking c width cycles seed text status (ranked t has few ranking) e = cc
+
 no_clash_trace : (c : Circuit) (cycles seed : ℕ) (list text : List ℕ) (status : Status) → OnTrace c cycles seed list text status → status ≡ statuses.Contradiction → ⊥
 no_clash_trace c cycles seed list text status (refused_names _ _ (unknown_name name unknown)) e = cc
 no_clash_trace c cycles seed list text status (refused_names _ _ (name_twice name twice)) e = cc
@@ -102,6 +108,8 @@ clash_answer words held text status (bad_number place bad) e = absurd cc
 clash_answer words held text status (asked (restoration netlist dump all) t k asks (inl refused)) e = absurd (no_refused_clash held netlist t k refused e)
 clash_answer words held text status (asked (restoration netlist dump all) t k asks (inr (c, is, (bytes, there, inl refused)))) e = let wrong = sym (dump_status c bytes t k refused) ∙ e in absurd cc
 clash_answer words held text status (asked (restoration netlist dump all) t k asks (inr (c, is, (bytes, there, inr (d, read, on))))) e = clash_recording words held netlist dump bytes all asks c is there d read t k on e
+clash_answer words held text status (asked (selection netlist width cycles seed) t k asks (inl refused)) e = absurd (no_refused_clash held netlist t k refused e)
+clash_answer words held text status (asked (selection netlist width cycles seed) t k asks (inr (c, is, on))) e = absurd (no_clash_ranking c width cycles seed t k on e)
 clash_answer words held text status (asked (simulation netlist cycles seed list) t k asks (inl refused)) e = absurd (no_refused_clash held netlist t k refused e)
 clash_answer words held text status (asked (simulation netlist cycles seed list) t k asks (inr (c, is, on))) e = absurd (no_clash_trace c cycles seed list t k on e)
 clash_answer words held text status (asked (printing netlist) t k asks (inl refused)) e = absurd (no_refused_clash held netlist t k refused e)

@@ -3,10 +3,10 @@ use Rattle.std.proofs.Common.{◌⊎◌, ◌<◌, ◌^◌, ◌-◌, ℕ, List, [
 use Rattle.std.specs.Prelude.{Contains}
 use Rattle.std.proofs.lemmas.Option.{slice_get-get_or}
 use Rattle.sr_model.specs.Limits.{max_cycles, max_signals}
-use Rattle.restore_program.specs.Requests.{Asks, Request, loading, printing, restoration, simulation}
+use Rattle.restore_program.specs.Requests.{Asks, Request, loading, printing, restoration, selection, simulation}
 use Rattle.restore_program.specs.WordLaws.{WordsAreDecided}
-use Rattle.restore_program.specs.Words.{CommandRule, IsBadAt, IsBadNumber, IsCommand, IsShaped, all_rule, command_rules, cycles_rule, load_rule, number_rule, print_rule, restore_rule, seed_rule, signals_rule, simulate_rule, trace_rule}
-use Rattle.restore_program.proofs.CommandShapes.{load_is_one, no_shape, print_is_one, restore_is_one, simulate_is_one}
+use Rattle.restore_program.specs.Words.{CommandRule, IsBadAt, IsBadNumber, IsCommand, IsShaped, all_rule, command_rules, cycles_rule, load_rule, number_rule, print_rule, restore_rule, seed_rule, select_rule, signals_rule, simulate_rule, trace_rule, width_rule}
+use Rattle.restore_program.proofs.CommandShapes.{load_is_one, no_shape, print_is_one, restore_is_one, select_is_one, simulate_is_one}
 use Rattle.restore_program.proofs.CommandWords.{shape_print}
 use Rattle.restore_program.proofs.DecidedNumbers.{choice_of, first_bad, gift_behind, good_gift}
 use Rattle.restore_program.proofs.DecidedShapes.{decided_shape}
@@ -43,6 +43,15 @@ module _ (words : List (List ℕ)) where
         ),
       )
 
+  asked_select : IsShaped select_rule words → NoBad select_rule → AsksSome
+  asked_select shaped good =
+      let width = good_gift select_rule words width_rule 0 1 max_signals (lit< tt) refl refl good ((shaped.given 0 width_rule (lit< tt)).given refl) in
+      let cycles = good_gift select_rule words cycles_rule 1 1 max_cycles (lit< tt) refl refl good ((shaped.given 1 cycles_rule (lit< tt)).given refl) in
+      let seed = good_gift select_rule words seed_rule 2 0 (2 ^ 64 - 1) (lit< tt) refl refl good ((shaped.given 2 seed_rule (lit< tt)).given refl) in (
+        selection (get_or words 1 []) width.0 cycles.0 seed.0,
+        record { shaped = shaped; is_netlist = slice_get-get_or words 1 [] shaped.files; has_width = width.1; has_cycles = cycles.1; has_seed = seed.1 },
+      )
+
   asked_load : IsShaped load_rule words → NoBad load_rule → AsksSome
   asked_load shaped good =
       let number = good_gift load_rule words number_rule 0 0 (2 ^ 64 - 1) (lit< tt) refl refl good ((shaped.given 0 number_rule (lit< tt)).given refl) in
@@ -60,13 +69,16 @@ module _ (words : List (List ℕ)) where
   one_of_three =
       elim (decided_shape restore_rule words) [
         | inl restore ↦ command_decided restore_rule restore_is_one restore (λ _. asked_restore restore)
-        | inr no_restore ↦ elim (decided_shape simulate_rule words) [
-          | inl simulate ↦ command_decided simulate_rule simulate_is_one simulate (asked_simulate simulate)
-          | inr no_simulate ↦ elim (decided_shape print_rule words) [
-            | inl print ↦ command_decided print_rule print_is_one print (λ _. asked_print print)
-            | inr no_print ↦ elim (decided_shape load_rule words) [
-              | inl load ↦ command_decided load_rule load_is_one load (asked_load load)
-              | inr no_load ↦ inl (no_shape words no_restore no_simulate no_print no_load)
+        | inr no_restore ↦ elim (decided_shape select_rule words) [
+          | inl select ↦ command_decided select_rule select_is_one select (asked_select select)
+          | inr no_select ↦ elim (decided_shape simulate_rule words) [
+            | inl simulate ↦ command_decided simulate_rule simulate_is_one simulate (asked_simulate simulate)
+            | inr no_simulate ↦ elim (decided_shape print_rule words) [
+              | inl print ↦ command_decided print_rule print_is_one print (λ _. asked_print print)
+              | inr no_print ↦ elim (decided_shape load_rule words) [
+                | inl load ↦ command_decided load_rule load_is_one load (asked_load load)
+                | inr no_load ↦ inl (no_shape words no_restore no_select no_simulate no_print no_load)
+              ]
             ]
           ]
         ]

@@ -31,8 +31,9 @@ use Rattle.report.specs.Table.{table_text}
 use Rattle.restore_program.specs.declared.status.Status.{Status}
 use Rattle.restore_program.specs.declared.status.Status.TheVariants as statuses
 use Rattle.restore_program.specs.Loading.{IsLoadText}
-use Rattle.restore_program.specs.Requests.{Request, Asks, restoration, simulation, printing, loading}
+use Rattle.restore_program.specs.Requests.{Request, Asks, restoration, selection, simulation, printing, loading}
 use Rattle.restore_program.specs.Words.{IsBadNumber, IsCommand}
+use Rattle.restore_program.specs.Selecting.{OnSelect}
 use Rattle.restore_program.specs.Tracing.{OnTrace}
 
 -- the most bytes of an input
@@ -128,6 +129,7 @@ OnLoad number signals text status = IsLoadText number signals text × (status �
 -- on what is asked for
 abbrev pub RequestAnswer : Held → Request → List ℕ → Status → Type 0
 RequestAnswer held (restoration netlist dump all) = OnNetlist held netlist (λ c. DumpAnswer held c dump all)
+RequestAnswer held (selection netlist width cycles seed) = OnNetlist held netlist (λ c. OnSelect c width cycles seed)
 RequestAnswer held (simulation netlist cycles seed list) = OnNetlist held netlist (λ c. OnTrace c cycles seed list)
 RequestAnswer held (printing netlist) = OnNetlist held netlist OnPrint
 RequestAnswer held (loading number signals) = OnLoad number signals

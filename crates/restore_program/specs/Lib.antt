@@ -8,6 +8,7 @@ pub mod ReplyAnswers
 pub mod Reply
 pub mod Requests
 pub mod Says
+pub mod Selecting
 pub mod Sound
 pub mod Status
 pub mod TraceRefusals

@@ -1,5 +1,5 @@
 -- The text and the status of each reply.
-use Rattle.std.specs.Prelude.{ℕ, ◌<◌, ◌≤◌, ⊤, List, Option, IsSome, length}
+use Rattle.std.specs.Prelude.{ℕ, ◌<◌, ◌≤◌, ⊤, All, List, Option, IsSome, length}
 use Rattle.sr_model.specs.declared.cells.Cell.{Cell}
 use Rattle.sr_model.specs.Closure.{HasBoth, passing}
 use Rattle.bench_reader.specs.declared.reader.BenchRefusal.{BenchRefusal}
@@ -20,6 +20,7 @@ use Rattle.report.specs.Clash.{clash_line}
 use Rattle.report.specs.Refusals.{AreThere, refusal_line}
 use Rattle.report.specs.Table.{table_text}
 use Rattle.report.specs.Load.{load_line}
+use Rattle.report.specs.Picks.{pick_lines}
 use Rattle.restore_program.specs.declared.reply.Loaded.{Loaded}
 use Rattle.restore_program.specs.declared.reply.Table.{Table}
 use Rattle.restore_program.specs.declared.reply.Reply.{Reply}
@@ -51,6 +52,7 @@ IsReady words (replies.Refused refusal) = AreThere words refusal
 IsReady words (replies.Known table) = IsTable table
 IsReady words (replies.Clash netlist cell) = cell.sig.0 < length netlist.drivers
 IsReady words (replies.Text text status) = IsResult status
+IsReady words (replies.Ranking ranked) = All (λ pick. pick.sig.0 < length ranked.netlist.drivers) ranked.picks.items
 IsReady words (replies.Load loaded) = ⊤
 
 -- the line of a load netlist
@@ -63,6 +65,7 @@ text_of words (replies.Refused refusal) = refusal_line words refusal
 text_of words (replies.Known table) = table_text table.netlist table.cycles (has (unrolling_of table) table.planes) table.traced table.all
 text_of words (replies.Clash netlist cell) = clash_line netlist cell
 text_of words (replies.Text text status) = text.items
+text_of words (replies.Ranking ranked) = pick_lines ranked.netlist.names ranked.picks.items
 text_of words (replies.Load loaded) = loaded_line loaded
 
 -- the status of a refused input
@@ -90,6 +93,7 @@ refusal_status (refusals.Words refusal) = statuses.Words
 refusal_status (refusals.TooLong part) = part_status part
 refusal_status (refusals.Fault part) = statuses.ReadFault
 refusal_status (refusals.CellsByWords product) = statuses.Dump
+refusal_status (refusals.WidthOver flip_flops) = statuses.Words
 refusal_status (refusals.TraceUnknown place item) = statuses.Words
 refusal_status (refusals.TraceTwice place item) = statuses.Words
 refusal_status refusals.NoMemory = statuses.NoMemory
@@ -99,6 +103,7 @@ status_of (replies.Refused refusal) = refusal_status refusal
 status_of (replies.Known table) = statuses.Done
 status_of (replies.Clash netlist cell) = statuses.Contradiction
 status_of (replies.Text text status) = status
+status_of (replies.Ranking ranked) = statuses.Done
 status_of (replies.Load loaded) = statuses.Done
 
 -- the reply is a table

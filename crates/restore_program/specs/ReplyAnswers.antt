@@ -21,6 +21,7 @@ Replies words P reply = IsPlain (status_of reply) → P (text_of words reply) (s
 -- the refusal is about the words
 abbrev pub IsWordsRefusal : Refusal → Type 0
 IsWordsRefusal (refusals.Words refusal) = ⊤
+IsWordsRefusal (refusals.WidthOver flip_flops) = ⊤
 IsWordsRefusal (refusals.TraceUnknown place item) = ⊤
 IsWordsRefusal (refusals.TraceTwice place item) = ⊤
 IsWordsRefusal _ = ⊥

@@ -2,12 +2,13 @@
 use Rattle.std.specs.Prelude.{ℕ, Bool, List, [], ◌∷◌}
 use Rattle.report.specs.declared.refusal.Part.{Part}
 use Rattle.report.specs.declared.refusal.Part.TheVariants as parts
-use Rattle.restore_program.specs.Words.{CommandRule, Restores, Simulates, Prints, Loads, GivesAt, load_rule, print_rule, restore_rule, simulate_rule, trace_rule}
+use Rattle.restore_program.specs.Words.{CommandRule, Restores, Selects, Simulates, Prints, Loads, GivesAt, load_rule, print_rule, restore_rule, select_rule, simulate_rule, trace_rule}
 
--- the restoration of a dump, with the rows of all signals or of the flip-flops alone; a run of so many cycles from a seed, with a trace of the signals that a list names;
+-- the restoration of a dump, with the rows of all signals or of the flip-flops alone; a ranking of so many flip-flops, by a run of so many cycles from a seed; a run of so many cycles from a seed, with a trace of the signals that a list names;
 -- a netlist's text; or what follows in a netlist of so many signals that is drawn from a number
 pub data Request : Type 0 where
   restoration : (netlist dump : List ℕ) (all : Bool) → Request
+  selection : (netlist : List ℕ) (width cycles seed : ℕ) → Request
   simulation : (netlist : List ℕ) (cycles seed : ℕ) (list : List ℕ) → Request
   printing : (netlist : List ℕ) → Request
   loading : (number signals : ℕ) → Request
@@ -18,6 +19,7 @@ Traces words netlist cycles seed list = (place : ℕ) × Simulates words netlist
 
 abbrev pub Asks : List (List ℕ) → Request → Type 0
 Asks words (restoration netlist dump all) = Restores words netlist dump all
+Asks words (selection netlist width cycles seed) = Selects words netlist width cycles seed
 Asks words (simulation netlist cycles seed list) = Traces words netlist cycles seed list
 Asks words (printing netlist) = Prints words netlist
 Asks words (loading number signals) = Loads words number signals
@@ -25,6 +27,7 @@ Asks words (loading number signals) = Loads words number signals
 -- the rule of the command that asks for it
 abbrev pub rule_of : Request → CommandRule
 rule_of (restoration netlist dump all) = restore_rule
+rule_of (selection netlist width cycles seed) = select_rule
 rule_of (simulation netlist cycles seed list) = simulate_rule
 rule_of (printing netlist) = print_rule
 rule_of (loading number signals) = load_rule
@@ -36,6 +39,7 @@ File = Part × List ℕ
 -- the files that a request comes to, in this order
 abbrev pub files_of : Request → List File
 files_of (restoration netlist dump all) = (parts.Netlist, netlist) ∷ (parts.Dump, dump) ∷ []
+files_of (selection netlist width cycles seed) = (parts.Netlist, netlist) ∷ []
 files_of (simulation netlist cycles seed list) = (parts.Netlist, netlist) ∷ []
 files_of (printing netlist) = (parts.Netlist, netlist) ∷ []
 files_of (loading number signals) = []

@@ -15,7 +15,8 @@ use Rattle.restore_program.specs.declared.status.Status.{Status}
 use Rattle.restore_program.specs.declared.status.Status.TheVariants as statuses
 use Rattle.restore_program.specs.Answer.{given_rows, IsNetlistOf, IsDumpText, KnownFrom, SpellsDump, traced_count}
 use Rattle.restore_program.specs.Faults.{IsAcceptedOn}
-use Rattle.restore_program.specs.Requests.{Request, files_of, loading, printing, restoration, simulation}
+use Rattle.restore_program.specs.Requests.{Request, files_of, loading, printing, restoration, selection, simulation}
+use Rattle.restore_program.specs.Selecting.{HasWidth}
 use Rattle.restore_program.specs.Tracing.{AreNamed, names_in}
 use Rattle.restore_program.specs.Words.{Restores}
 
@@ -56,9 +57,10 @@ NoneMatches words held = (c : Circuit) × (d : Recording) × (all : Bool) × Acc
 
 -- ---- what is completed
 
--- nothing else that is asked of this netlist is refused: the names of a trace are those of signals, each once, and the cells are not too many
+-- nothing else that is asked of this netlist is refused: there are so many flip-flops, the names of a trace are those of signals, each once, and the cells are not too many
 abbrev pub IsAllowedOn : Circuit → Request → Type 0
 IsAllowedOn c (restoration netlist dump all) = ⊤
+IsAllowedOn c (selection netlist width cycles seed) = HasWidth c width × (block_count (length c.drivers) cycles ≤ max_blocks)
 IsAllowedOn c (simulation netlist cycles seed list) = (sigs : List Sig) × AreNamed c (names_in list) sigs × (block_count (length c.drivers) cycles ≤ max_blocks)
 IsAllowedOn c (printing netlist) = ⊤
 IsAllowedOn c (loading number signals) = ⊤
@@ -70,6 +72,7 @@ IsAccepted held request = (c : Circuit) × All (IsAcceptedOn c held) (files_of r
 -- how it ends then: a restoration with a table or with a contradiction, and what else is asked for with its text
 abbrev pub IsCompleted : Request → Status → Type 0
 IsCompleted (restoration netlist dump all) status = (status ≡ statuses.Done) ⊎ (status ≡ statuses.Contradiction)
+IsCompleted (selection netlist width cycles seed) status = status ≡ statuses.Done
 IsCompleted (simulation netlist cycles seed list) status = status ≡ statuses.Done
 IsCompleted (printing netlist) status = status ≡ statuses.Done
 IsCompleted (loading number signals) status = status ≡ statuses.Done

@@ -4,10 +4,11 @@ use Rattle.restore_program.specs.declared.words.Settings.{Settings}
 use Rattle.restore_program.specs.declared.words.Settings.TheVariants as settings
 use Rattle.report.specs.declared.refusal.WordRefusal.{WordRefusal}
 use Rattle.report.specs.declared.refusal.WordRefusal.TheVariants as refusals
-use Rattle.restore_program.specs.Words.{IsBadNumber, IsCommand, IsPrint, Loads, Restores, Simulates}
+use Rattle.restore_program.specs.Words.{IsBadNumber, IsCommand, IsPrint, Loads, Restores, Selects, Simulates}
 
 abbrev pub Means : List (List ℕ) → Result Settings WordRefusal → Type 0
 Means words (Ok (settings.Restore all)) = (netlist dump : List ℕ) × Restores words netlist dump all
+Means words (Ok (settings.Select width cycles seed)) = (netlist : List ℕ) × Selects words netlist width cycles seed
 Means words (Ok (settings.Simulate cycles seed trace)) = (netlist : List ℕ) × Simulates words netlist cycles seed trace
 Means words (Ok settings.Print) = IsPrint words
 Means words (Ok (settings.Load number signals)) = Loads words number signals

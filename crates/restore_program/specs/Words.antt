@@ -42,6 +42,12 @@ trace_rule = record { name = codes "trace"; required = true; takes = names }
 abbrev pub simulate_rule : CommandRule
 simulate_rule = record { name = codes "simulate"; files = 1; keys = cycles_rule ∷ seed_rule ∷ trace_rule ∷ [] }
 
+abbrev pub width_rule : KeyRule
+width_rule = record { name = codes "width"; required = true; takes = number 1 max_signals }
+
+abbrev pub select_rule : CommandRule
+select_rule = record { name = codes "select"; files = 1; keys = width_rule ∷ cycles_rule ∷ seed_rule ∷ [] }
+
 abbrev pub print_rule : CommandRule
 print_rule = record { name = codes "print"; files = 1; keys = [] }
 
@@ -55,7 +61,7 @@ abbrev pub load_rule : CommandRule
 load_rule = record { name = codes "load"; files = 0; keys = number_rule ∷ signals_rule ∷ [] }
 
 abbrev pub command_rules : List CommandRule
-command_rules = restore_rule ∷ simulate_rule ∷ print_rule ∷ load_rule ∷ []
+command_rules = restore_rule ∷ select_rule ∷ simulate_rule ∷ print_rule ∷ load_rule ∷ []
 
 -- ---- words
 
@@ -163,6 +169,14 @@ pub record Simulates (words : List (List ℕ)) (netlist : List ℕ) (cycles seed
   pub has_seed : IsGiven simulate_rule words seed_rule seed
   pub has_trace : (value : List ℕ) × GivesAt simulate_rule words trace trace_rule value
 
+-- the words ask for a ranking of so many flip-flops of this netlist, by a run over so many cycles from this seed
+pub record Selects (words : List (List ℕ)) (netlist : List ℕ) (width cycles seed : ℕ) : Type 0 where
+  pub shaped : IsShaped select_rule words
+  pub is_netlist : slice_get words 1 ≡ Some netlist
+  pub has_width : IsGiven select_rule words width_rule width
+  pub has_cycles : IsGiven select_rule words cycles_rule cycles
+  pub has_seed : IsGiven select_rule words seed_rule seed
+
 -- the words ask for what follows in the netlist that is drawn from this number, with so many signals
 pub record Loads (words : List (List ℕ)) (number signals : ℕ) : Type 0 where
   pub shaped : IsShaped load_rule words
@@ -180,3 +194,7 @@ IsPrint words = (netlist : List ℕ) × Prints words netlist
 -- the words are `simulate` and what it takes
 abbrev pub IsSimulate : List (List ℕ) → Type 0
 IsSimulate words = (netlist : List ℕ) × (cycles seed trace : ℕ) × Simulates words netlist cycles seed trace
+
+-- the words are `select` and what it takes
+abbrev pub IsSelect : List (List ℕ) → Type 0
+IsSelect words = (netlist : List ℕ) × (width cycles seed : ℕ) × Selects words netlist width cycles seed

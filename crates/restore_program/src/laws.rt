@@ -3,7 +3,7 @@ ghost use Rattle.restore_program.specs.AnswerLaws.{AnswerExists, HasOneAnswer, A
 ghost use Rattle.restore_program.specs.WordLaws.{WordsAreDecided};
 
 /// Words have an answer wherever the inputs that are come to are held, and one at most. Where what is asked for is accepted, each answer completes it: a
-/// restoration with a table or a contradiction, `print` with the netlist's text, `simulate` with the dump of the run, and `load` with its line.
+/// restoration with a table or a contradiction, `select` with the lines of its picks, `simulate` with the dump of the run, `print` with the netlist's text, and `load` with its line.
 /// From the dump of a run only bits of the run are known, so its table has no other and there is no contradiction.
 pub fn answer_laws()
     ensures exists { AnswerExists }
@@ -13,7 +13,7 @@ pub fn answer_laws()
 {}
 
 /// What words say is decided. Either they have the shape of no command; or they have that of one, and there is a first number that its key may not have;
-/// or they ask for a restoration, a run, a netlist's text or a load.
+/// or they ask for a restoration, a ranking, a run, a netlist's text or a load.
 pub fn word_laws()
     ensures decided { WordsAreDecided }
 {}

@@ -9,10 +9,13 @@ ghost use Rattle.restore_program.specs.Reply.{HasBuffer, IsReady, IsTable, IsTab
 use crate::status::Status;
 use bench_reader::BenchRefusal;
 use dump_reader::DumpRefusal;
+use greedy_select::Picks;
 use known_planes::Planes;
 use netlist::{NetRefusal, Netlist};
 use ratio::Ratio;
-use report::{Part, Refusal, RowBuf, write_clash, write_load, write_refusal, write_table};
+use report::{
+    Part, Refusal, RowBuf, write_clash, write_load, write_picks, write_refusal, write_table,
+};
 use sr_model::{Bytes, Cell, NoMemory};
 use sr_outside::{Sink, WriteFault, write_all};
 use std::alloc::Global;
@@ -39,6 +42,13 @@ pub struct Loaded {
     pub(crate) ratio: Ratio,
 }
 
+/// The picks of a netlist's flip-flops.
+#[derive(Drop)]
+pub struct Ranked {
+    pub(crate) netlist: Netlist,
+    pub(crate) picks: Picks,
+}
+
 /// What a run writes.
 #[derive(Drop)]
 pub enum Reply {
@@ -50,6 +60,8 @@ pub enum Reply {
     Clash { netlist: Netlist, cell: Cell },
     /// A netlist's text or a dump's, and how the run ends with it.
     Text { text: Bytes, status: Status },
+    /// The lines of picks.
+    Ranking { ranked: Ranked },
     /// The line of a load netlist.
     Load { loaded: Loaded },
 }
@@ -62,7 +74,7 @@ pub(crate) fn reply_status(reply: &Reply) -> Status
         Reply::Refused { refusal } => refusal_status(refusal),
         Reply::Clash { .. } => Status::Contradiction,
         Reply::Text { status, .. } => *status,
-        Reply::Known { .. } | Reply::Load { .. } => Status::Done,
+        Reply::Known { .. } | Reply::Ranking { .. } | Reply::Load { .. } => Status::Done,
     }
 }
 
@@ -74,9 +86,10 @@ fn refusal_status(refusal: &Refusal) -> Status
         Refusal::Net(refusal) => net_status(refusal),
         Refusal::Dumped(refusal) => dump_status(refusal),
         Refusal::TooLong(part) => part_status(*part),
-        Refusal::Words(_) | Refusal::TraceUnknown { .. } | Refusal::TraceTwice { .. } => {
-            Status::Words
-        }
+        Refusal::Words(_)
+        | Refusal::WidthOver { .. }
+        | Refusal::TraceUnknown { .. }
+        | Refusal::TraceTwice { .. } => Status::Words,
         Refusal::CellsByWords { .. } => Status::Dump,
         Refusal::Fault(_) => Status::ReadFault,
         Refusal::NoMemory => Status::NoMemory,
@@ -164,6 +177,7 @@ pub(crate) fn write_reply<K: Sink>(
         Reply::Known { table } => write_known(table, buf.as_mut().unwrap(), out),
         Reply::Clash { netlist, cell } => write_clash(netlist, *cell, out),
         Reply::Text { text, .. } => write_text(text.as_slice(), out),
+        Reply::Ranking { ranked } => write_picks(&ranked.netlist, &ranked.picks, out),
         Reply::Load { loaded } => write_loaded(*loaded, out),
     }
 }

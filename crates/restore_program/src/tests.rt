@@ -13,6 +13,7 @@ mod loads;
 mod netlists;
 mod refusals;
 mod rows;
+mod selections;
 mod simulations;
 mod sizes;
 mod tables;
@@ -49,6 +50,14 @@ const RESTORE_ALL: [&str; 4] = ["restore", "net", "dump", "all=yes"];
 const PRINT: [&str; 2] = ["print", "net"];
 
 const SIMULATE: [&str; 5] = ["simulate", "net", "cycles=2", "seed=1", "trace=r,a"];
+
+const SELECT: [&str; 5] = ["select", "net", "width=2", "cycles=2", "seed=1"];
+
+/// What `SELECT` writes of `GATES`.
+const PICKS: &[u8] = b"r 3/2 1.500\nq 4/4 1.000\n";
+
+/// It has more flip-flops to pick than any netlist here.
+const WIDE: [&str; 5] = ["select", "net", "width=99", "cycles=2", "seed=1"];
 
 /// What `SIMULATE` writes of `GATES`.
 const TRACE: &[u8] = b"srdump 1\ncycles 2\nr 00\na 11\n";

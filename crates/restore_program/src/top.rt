@@ -5,7 +5,7 @@ ghost use Rattle.std.specs.Io.KnownBytes.{append_known};
 ghost use Rattle.sr_outside.specs.Counts.{IsCounted};
 ghost use Rattle.sr_outside.specs.Told.{AppendsPart, Held, IsFull, LacksPlace};
 ghost use Rattle.restore_program.specs.declared.status.Status.{Status as AnyStatus};
-ghost use Rattle.restore_program.specs.Words.{Gives, IsRestore, IsSimulate, trace_rule};
+ghost use Rattle.restore_program.specs.Words.{Gives, IsRestore, IsSelect, IsSimulate, trace_rule};
 ghost use Rattle.restore_program.specs.Faults.{AreRefused, AreSteady, IsFileOf, NeedsNoInput, TellsEnough};
 ghost use Rattle.restore_program.specs.ReplyAnswers.{IsOfWords, ReplyAnswer, fault_of};
 ghost use Rattle.restore_program.specs.Reads.{Reads};
@@ -19,6 +19,7 @@ use crate::load::load_reply;
 use crate::print::print_reply;
 use crate::reply::{Prepared, Reply, prepare, reply_status, write_reply};
 use crate::restore::restore_reply;
+use crate::select::select_reply;
 use crate::simulate::simulate_reply;
 use crate::status::Status;
 use crate::word_keys::value_of;
@@ -57,13 +58,13 @@ pub fn run<R: Threads + Sync, I: Inputs, K: Sink>(
     // A contradiction is written only where no execution matches the dump.
     ensures contradiction { result ≡ Status.Contradiction → IfSome (I.held inputs.old) (NoneMatches (map string_bytes words.now)) }
 
-    // What is asked for is completed where its files are accepted, and the names and the cells of a trace, unless memory, reading or writing fails: with a table or a
-    // contradiction, the text of the netlist, the dump of the run, or the line of a load.
+    // What is asked for is completed where its files are accepted, the width of a ranking, the names of a trace, and the cells of a run, unless memory, reading or
+    // writing fails: with a table or a contradiction, the lines of the picks, the dump of the run, the text of the netlist, or the line of a load.
     ensures completed { (held : Held) (request : Request) → TellsEnough (map string_bytes words.now) (I.held inputs.old) held → Asks (map string_bytes words.now) request
         → IsAccepted held request → IsPlain result → IsCompleted request result }
 
-    // Words that are refused, and `load`, start no input. Behind a netlist only the names of a trace can be refused.
-    ensures usage { result ≡ Status.Words → AreRefused (map string_bytes words.now) ⊎ IsSimulate (map string_bytes words.now) }
+    // Words that are refused, and `load`, start no input. Behind a netlist only the width of a ranking and the names of a trace can be refused.
+    ensures usage { result ≡ Status.Words → AreRefused (map string_bytes words.now) ⊎ IsSelect (map string_bytes words.now) ⊎ IsSimulate (map string_bytes words.now) }
     ensures refused { AreRefused (map string_bytes words.now) → (result ≡ Status.Words) ⊎ (result ≡ Status.WriteFault) }
     ensures untouched { NeedsNoInput (map string_bytes words.now) → inputs.new ≡ inputs.old }
 
@@ -98,7 +99,7 @@ fn prepared_reply<R: Threads + Sync, I: Inputs>(
     ensures answer { ReplyAnswer (map string_bytes words.now) (I.held inputs.old) result.reply }
     ensures ready { IsReady (map string_bytes words.now) result.reply }
     ensures buffer { HasBuffer result.reply result.buf }
-    ensures of_words { IsOfWords result.reply → AreRefused (map string_bytes words.now) ⊎ IsSimulate (map string_bytes words.now) }
+    ensures of_words { IsOfWords result.reply → AreRefused (map string_bytes words.now) ⊎ IsSelect (map string_bytes words.now) ⊎ IsSimulate (map string_bytes words.now) }
     ensures refused { AreRefused (map string_bytes words.now) → status_of result.reply ≡ Status.Words }
     ensures untouched { NeedsNoInput (map string_bytes words.now) → inputs.new ≡ inputs.old }
     ensures reads { Reads I.held I.shaky I.faults inputs.old inputs.new (IsFileOf (map string_bytes words.now) (I.held inputs.old)) (fault_of result.reply) }
@@ -118,7 +119,7 @@ fn reply_to<R: Threads + Sync, I: Inputs, C: Closer>(
 ) -> Reply
     ensures answer { ReplyAnswer (map string_bytes words.now) (I.held inputs.old) result }
     ensures ready { IsReady (map string_bytes words.now) result }
-    ensures of_words { IsOfWords result → AreRefused (map string_bytes words.now) ⊎ IsSimulate (map string_bytes words.now) }
+    ensures of_words { IsOfWords result → AreRefused (map string_bytes words.now) ⊎ IsSelect (map string_bytes words.now) ⊎ IsSimulate (map string_bytes words.now) }
     ensures refused { AreRefused (map string_bytes words.now) → status_of result ≡ Status.Words }
     ensures untouched { NeedsNoInput (map string_bytes words.now) → inputs.new ≡ inputs.old }
     ensures reads { Reads I.held I.shaky I.faults inputs.old inputs.new (IsFileOf (map string_bytes words.now) (I.held inputs.old)) (fault_of result) }
@@ -132,6 +133,22 @@ fn reply_to<R: Threads + Sync, I: Inputs, C: Closer>(
             words[1].as_str(),
             words[2].as_str(),
             all,
+        ),
+        Ok(
+            Settings::Select {
+                width,
+                cycles,
+                seed,
+            },
+        ) => select_reply(
+            rt,
+            alloc,
+            inputs,
+            closer,
+            words[1].as_str(),
+            width,
+            cycles,
+            seed,
         ),
         Ok(
             Settings::Simulate {

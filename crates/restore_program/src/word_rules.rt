@@ -70,6 +70,21 @@ pub(crate) const SIMULATE: Command = Command {
     keys: &[CYCLES, SEED, TRACE],
 };
 
+pub(crate) const WIDTH: Key = Key {
+    name: "width",
+    required: true,
+    takes: Takes::Number {
+        least: 1,
+        most: MAX_SIGNALS as u64,
+    },
+};
+
+pub(crate) const SELECT: Command = Command {
+    name: "select",
+    files: 1,
+    keys: &[WIDTH, CYCLES, SEED],
+};
+
 pub(crate) const PRINT: Command = Command {
     name: "print",
     files: 1,

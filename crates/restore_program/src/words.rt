@@ -2,14 +2,15 @@
 ghost use Rattle.std.specs.Prelude.{◌≡◌, ◌↔◌, ◌<◌, All, Any, Bool, Contains, IfErr, IsTrue, ℕ, List, OnOk, Some, Ok, Err, map, length};
 ghost use Rattle.std.specs.List.{slice_get};
 ghost use Rattle.std.specs.String.{string_bytes};
-ghost use Rattle.restore_program.specs.Words.{IsBadNumber, IsCommand, IsPrint, IsShaped, Loads, Restores, Simulates, command_rules, later, load_rule, simulate_rule};
+ghost use Rattle.restore_program.specs.Words.{IsBadNumber, IsCommand, IsPrint, IsShaped, Loads, Restores, Selects, Simulates, command_rules, later, load_rule, select_rule, simulate_rule};
 ghost use Rattle.restore_program.specs.WordRules.{IsBadFor, command_rule_of};
 ghost use Rattle.restore_program.specs.WordMeaning.{Means};
 
 use crate::word_keys::{is_chosen, place_of, suit_all};
 use crate::word_numbers::{bad_number, number_of};
 use crate::word_rules::{
-    ALL, CYCLES, Command, LOAD, NUMBER, PRINT, RESTORE, SEED, SIGNALS, SIMULATE, TRACE,
+    ALL, CYCLES, Command, LOAD, NUMBER, PRINT, RESTORE, SEED, SELECT, SIGNALS, SIMULATE, TRACE,
+    WIDTH,
 };
 use report::WordRefusal;
 
@@ -21,6 +22,8 @@ mod tests;
 pub enum Settings {
     /// The restoration of a netlist and a dump, the two words that follow; and whether every signal has a row.
     Restore { all: bool },
+    /// The ranking of a netlist, the word that follows: so many of its flip-flops, by a run over so many cycles from this seed.
+    Select { width: u32, cycles: u32, seed: u64 },
     /// A run of a netlist, the word that follows, over so many cycles from this seed; and the place of the word `trace=..` among the words.
     Simulate { cycles: u32, seed: u64, trace: u32 },
     /// The text of a netlist: the word that follows.
@@ -33,6 +36,7 @@ pub enum Settings {
 /// stand there. Then follow words `key=value` in any order, where the key ends at the first `=`.
 ///
 /// - `restore NET DUMP`, with one key that may be left out: `all`, `yes` or `no`, and `no` where it is not given.
+/// - `select NET`, with three keys, each of which has to be given: `width`, a number from 1 to 65,536; and `cycles` and `seed` as for `simulate`.
 /// - `simulate NET`, with three keys, each of which has to be given: `cycles`, a number from 1 to 8,192; `seed`, any number below 2^64; and
 ///   `trace`, one or more names that are not empty, parted by commas.
 /// - `print NET`, with no keys.
@@ -43,6 +47,8 @@ pub enum Settings {
 pub fn read_words(words: &[String]) -> Result<Settings, WordRefusal>
     ensures restore { (all : Bool) → (result ≡ Ok (Settings.Restore all))
         ↔ ((netlist dump : List ℕ) × Restores (map string_bytes words.now) netlist dump all) }
+    ensures select { (width cycles seed : ℕ) → (result ≡ Ok (Settings.Select width cycles seed))
+        ↔ ((netlist : List ℕ) × Selects (map string_bytes words.now) netlist width cycles seed) }
     ensures simulate { (cycles seed trace : ℕ) → (result ≡ Ok (Settings.Simulate cycles seed trace))
         ↔ ((netlist : List ℕ) × Simulates (map string_bytes words.now) netlist cycles seed trace) }
     ensures print { (result ≡ Ok Settings.Print) ↔ IsPrint (map string_bytes words.now) }
@@ -57,6 +63,8 @@ pub fn read_words(words: &[String]) -> Result<Settings, WordRefusal>
         Ok(Settings::Restore {
             all: is_chosen(&words[RESTORE.files + 1..], &ALL),
         })
+    } else if is_shaped(words, &SELECT) {
+        read_select(words)
     } else if is_shaped(words, &SIMULATE) {
         read_simulate(words)
     } else if is_shaped(words, &PRINT) {
@@ -96,6 +104,20 @@ fn check_numbers(words: &[String], command: &Command) -> Result<(), WordRefusal>
         }),
         None => Ok(()),
     }
+}
+
+/// What the words of a `select` say.
+fn read_select(words: &[String]) -> Result<Settings, WordRefusal>
+    requires { IsShaped select_rule (map string_bytes words.now) }
+    ensures { Means (map string_bytes words.now) result }
+{
+    check_numbers(words, &SELECT)?;
+    let keyed = &words[1 + SELECT.files..];
+    Ok(Settings::Select {
+        width: number_of(keyed, &WIDTH).unwrap() as u32,
+        cycles: number_of(keyed, &CYCLES).unwrap() as u32,
+        seed: number_of(keyed, &SEED).unwrap(),
+    })
 }
 
 /// What the words of a `simulate` say.

@@ -1,5 +1,11 @@
-//! Inputs and a sink that count the calls on them.
+//! Inputs, a sink and a closer that count the calls on them.
+use known_planes::{Closer, Planes};
+use plain_close::PlainCloser;
+use sr_model::NoMemory;
 use sr_outside::{Failed, Inputs, MemInputs, MemSink, Sink};
+use std::alloc::Global;
+use std::thread::Threads;
+use unroll::Problem;
 
 /// Inputs in memory, and how many reads were made.
 #[derive(Drop)]
@@ -63,5 +69,49 @@ impl Sink for CountedSink {
     fn put(&mut self, piece: &[u8]) -> Result<usize, Failed> {
         self.puts = self.puts.saturating_add(1);
         self.inner.put(piece)
+    }
+}
+
+/// A closer that counts the closings of a whole base, and those by `close_more`, by which it closes in place.
+#[derive(Drop)]
+pub struct CountedCloser {
+    pub inner: PlainCloser,
+    pub closes: u64,
+    pub more: u64,
+}
+
+impl Closer for CountedCloser {
+    fn close<R: Threads + Sync>(
+        &mut self,
+        rt: &R,
+        alloc: Global,
+        p: &Problem,
+        base: &Planes,
+    ) -> Result<Planes, NoMemory> {
+        self.closes = self.closes.saturating_add(1);
+        self.inner.close(rt, alloc, p, base)
+    }
+
+    fn close_more<R: Threads + Sync>(
+        &mut self,
+        rt: &R,
+        alloc: Global,
+        p: &Problem,
+        closed: &Planes,
+        added: &Planes,
+    ) -> Result<Planes, NoMemory> {
+        self.more = self.more.saturating_add(1);
+        self.inner.close_more(rt, alloc, p, closed, added)
+    }
+
+    fn close_until_clash<R: Threads + Sync>(
+        &mut self,
+        rt: &R,
+        alloc: Global,
+        p: &Problem,
+        base: Planes,
+    ) -> Result<Planes, NoMemory> {
+        self.closes = self.closes.saturating_add(1);
+        self.inner.close_until_clash(rt, alloc, p, base)
     }
 }

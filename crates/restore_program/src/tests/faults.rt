@@ -1,7 +1,7 @@
 //! Reads and puts that fail.
 use super::{
-    DUMP, DUMP_FAULT, GATES, NETLIST_FAULT, PRINT, RESTORE, SIMULATE, TABLE, TRACE, UNKNOWN, USAGE,
-    expect_run, expect_written, held,
+    DUMP, DUMP_FAULT, GATES, NETLIST_FAULT, PICKS, PRINT, RESTORE, SELECT, SIMULATE, TABLE, TRACE,
+    UNKNOWN, USAGE, WIDE, expect_run, expect_written, held,
 };
 use sr_outside::MemSink;
 use std::test::*;
@@ -10,11 +10,12 @@ use std::test::*;
 #[test]
 fn reads_that_fail(rt: HostRuntime) -> Result<(), Fail> {
     let alloc = rt.alloc();
-    let cases: [(&[&str], &str, u32, &[u8], &[u8]); 4] = [
+    let cases: [(&[&str], &str, u32, &[u8], &[u8]); 5] = [
         (&RESTORE, "net", 14, NETLIST_FAULT, TABLE),
         (&RESTORE, "dump", 6, DUMP_FAULT, TABLE),
         (&PRINT, "net", 14, NETLIST_FAULT, GATES),
         (&SIMULATE, "net", 14, NETLIST_FAULT, TRACE),
+        (&SELECT, "net", 14, NETLIST_FAULT, PICKS),
     ];
     for (words, name, last, fault, text) in cases {
         for call in 0..16 {
@@ -35,7 +36,7 @@ fn reads_that_fail(rt: HostRuntime) -> Result<(), Fail> {
 #[test]
 fn sinks_that_stop(rt: HostRuntime) -> Result<(), Fail> {
     let alloc = rt.alloc();
-    let cases: [(&[&str], &[u8], &[u8], u8); 7] = [
+    let cases: [(&[&str], &[u8], &[u8], u8); 9] = [
         (&RESTORE, DUMP, TABLE, 0),
         (&RESTORE, b"", b"srestore: dump line 1: 10 bad head\n", 4),
         (
@@ -48,6 +49,8 @@ fn sinks_that_stop(rt: HostRuntime) -> Result<(), Fail> {
         (&PRINT, DUMP, GATES, 0),
         (&SIMULATE, b"", TRACE, 0),
         (&UNKNOWN, b"", b"srestore: words: 26 unknown trace zz\n", 2),
+        (&SELECT, b"", PICKS, 0),
+        (&WIDE, b"", b"srestore: words: 25 width over 2\n", 2),
     ];
     for (words, dump, text, code) in cases {
         for room in 0..100 {

@@ -62,6 +62,18 @@ fn shapes(rt: HostRuntime) -> Result<(), Fail> {
         "number=1 load signals=16",
         "load number=x signals=16 workers=1",
         "print net number=1 signals=16",
+        "select net",
+        "select net width=1 cycles=1",
+        "select net width=1 seed=0",
+        "select net cycles=1 seed=0",
+        "select net width=1 cycles=1 seed=0 width=1",
+        "select net width=1 cycles=1 seed=0 workers=1",
+        "select net width=1 cycles=1 seed=0 trace=a",
+        "select net dump width=1 cycles=1 seed=0",
+        "select width=1 cycles=1 seed=0",
+        "select net width=0 cycles=1 seed",
+        "Select net width=1 cycles=1 seed=0",
+        "simulate net width=1 cycles=1 seed=0",
     ];
     for line in lines {
         let words = words_of(rt.alloc(), line)?;
@@ -89,6 +101,11 @@ fn numbers(rt: HostRuntime) -> Result<(), Fail> {
         ("load number=01 signals=16", 1),
         ("load number= signals=", 1),
         ("load signals=016 number=-1", 1),
+        ("select net width=0 cycles=1 seed=0", 2),
+        ("select net width=65537 cycles=1 seed=0", 2),
+        ("select net cycles=8193 width=0 seed=x", 2),
+        ("select net seed=x cycles=1 width=01", 2),
+        ("select net seed=0 cycles=1 width=", 4),
     ];
     for (line, place) in lines {
         let words = words_of(rt.alloc(), line)?;
@@ -114,6 +131,22 @@ fn commands(rt: HostRuntime) -> Result<(), Fail> {
             Settings::Restore { all: true },
         ),
         ("print restore", Settings::Print),
+        (
+            "select net width=1 cycles=8192 seed=0",
+            Settings::Select {
+                width: 1,
+                cycles: 8_192,
+                seed: 0,
+            },
+        ),
+        (
+            "select width=2 seed=18446744073709551615 width=65536 cycles=1",
+            Settings::Select {
+                width: 65_536,
+                cycles: 1,
+                seed: 18_446_744_073_709_551_615,
+            },
+        ),
         (
             "simulate net cycles=1 seed=0 trace=a",
             Settings::Simulate {

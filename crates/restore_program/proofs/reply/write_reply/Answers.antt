@@ -11,3 +11,7 @@ returns-in-Clash g c =
 pub returns-in-Load : goal.returns-in-Load
 returns-in-Load g c =
     subst (λ reply. Writes g.K.Sink.written g.K.Sink.room g.K.Sink.faults c.args.out.now c.write_loaded.new.out c.write_loaded.result (text_of (map string_bytes c.args.words.now) reply)) (sym c.in-Load.is) c.write_loaded.ensures
+
+pub returns-in-Ranking : goal.returns-in-Ranking
+returns-in-Ranking g c =
+    subst (λ reply. Writes g.K.Sink.written g.K.Sink.room g.K.Sink.faults c.args.out.now c.write_picks.new.out c.write_picks.result (text_of (map string_bytes c.args.words.now) reply)) (sym c.in-Ranking.is) c.write_picks.ensures

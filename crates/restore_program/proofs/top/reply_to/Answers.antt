@@ -3,11 +3,12 @@ use Rattle.std.specs.Prelude.{map, Ok, Err}
 use Rattle.std.specs.String.{string_bytes}
 use Rattle.std.proofs.lemmas.List.{length-map}
 use Rattle.restore_program.specs.Reads.{Reads}
-use Rattle.restore_program.specs.Requests.{Asks, Request, loading, restoration, simulation, printing}
+use Rattle.restore_program.specs.Requests.{Asks, Request, loading, restoration, selection, simulation, printing}
 use Rattle.restore_program.specs.Words.{Simulates}
 use Rattle.restore_program.proofs.Answering.{answers_asked, answers_refused, refused_as, refused_ready, told_or_not, words_refused}
 use Rattle.restore_program.proofs.AskedLoad.{load_size}
 use Rattle.restore_program.proofs.AskedRestore.{restore_files, restores_seen}
+use Rattle.restore_program.proofs.AskedSelection.{select_cycles, select_file, selects_seen}
 use Rattle.restore_program.proofs.AskedSimulation.{cycles_counted, has_list, listed, same_netlist, trace_within, traces_list}
 use Rattle.restore_program.proofs.CommandWords.{asked_print, print_file}
 use Rattle.restore_program.proofs.Inputless.{needs_files}
@@ -41,6 +42,34 @@ returns-in-Ok-Restore g c =
       refused = λ refused. absurd (asked_refused words request asked refused);
       untouched = λ needs. absurd (needs_files words request _ _ refl asked needs);
       reads = read_among _ _ _ _ _ _ _ _ (λ file come. (request, asked, come)) c.restore_reply.ensures.reads;
+    }
+
+-- ---- select
+
+pub bounds-words-1-in-Ok-Select : goal.bounds-words-1-in-Ok-Select
+bounds-words-1-in-Ok-Select g c =
+    let is = (c.in-Ok-Select.ensures.select c.in-Ok-Select.width c.in-Ok-Select.cycles c.in-Ok-Select.seed).0 (ap Ok c.in-Ok-Select.field-0-is) in
+    select_file string_bytes c.args.words.now is.0 c.in-Ok-Select.width c.in-Ok-Select.cycles c.in-Ok-Select.seed is.1
+
+pub select_reply-requires-after_bounds : goal.select_reply-requires-after_bounds
+select_reply-requires-after_bounds g c κs within =
+    let is = (c.in-Ok-Select.ensures.select c.in-Ok-Select.width c.in-Ok-Select.cycles c.in-Ok-Select.seed).0 (ap Ok c.in-Ok-Select.field-0-is) in
+    select_cycles string_bytes c.args.words.now is.0 c.in-Ok-Select.width c.in-Ok-Select.cycles c.in-Ok-Select.seed is.1
+
+pub returns-in-Ok-Select : goal.returns-in-Ok-Select
+returns-in-Ok-Select g c =
+    let words : List (List ℕ) = map string_bytes c.args.words.now in
+    let is = (c.in-Ok-Select.ensures.select c.in-Ok-Select.width c.in-Ok-Select.cycles c.in-Ok-Select.seed).0 (ap Ok c.in-Ok-Select.field-0-is) in
+    let request : Request = selection c.as_str-in-Ok-Select.result.now c.in-Ok-Select.width c.in-Ok-Select.cycles c.in-Ok-Select.seed in
+    let asked : Asks words request =
+    selects_seen string_bytes c.args.words.now is.0 c.in-Ok-Select.width c.in-Ok-Select.cycles c.in-Ok-Select.seed is.1 c.index-words-1-in-Ok-Select.result c.as_str-in-Ok-Select.result.now c.index-words-1-in-Ok-Select.is c.as_str-in-Ok-Select.ensures.value in
+    record {
+      answer = answers_asked (g.I.Inputs.held c.args.inputs.now) words request c.select_reply.result asked (c.select_reply.ensures.answer words) (λ needs. absurd (needs_files words request _ _ refl asked needs));
+      ready = c.select_reply.ensures.ready words;
+      of_words = λ _. inr (inl (is.0, c.in-Ok-Select.width, c.in-Ok-Select.cycles, c.in-Ok-Select.seed, is.1));
+      refused = λ refused. absurd (asked_refused words request asked refused);
+      untouched = λ needs. absurd (needs_files words request _ _ refl asked needs);
+      reads = read_among _ _ _ _ _ _ _ _ (λ file come. (request, asked, come)) c.select_reply.ensures.reads;
     }
 
 -- ---- simulate
@@ -78,7 +107,7 @@ returns-in-Ok-Simulate g c =
     record {
       answer = answers_asked (g.I.Inputs.held c.args.inputs.now) words request c.simulate_reply.result asked (c.simulate_reply.ensures.answer words there) (λ needs. absurd (needs_files words request _ _ refl asked needs));
       ready = c.simulate_reply.ensures.ready words there;
-      of_words = λ _. inr (is.0, c.in-Ok-Simulate.cycles, c.in-Ok-Simulate.seed, c.in-Ok-Simulate.trace, is.1);
+      of_words = λ _. inr (inr (is.0, c.in-Ok-Simulate.cycles, c.in-Ok-Simulate.seed, c.in-Ok-Simulate.trace, is.1));
       refused = λ refused. absurd (asked_refused words request asked refused);
       untouched = λ needs. absurd (needs_files words request _ _ refl asked needs);
       reads = read_among _ _ _ _ _ _ _ _ (λ file come. (request, asked, come)) c.simulate_reply.ensures.reads;

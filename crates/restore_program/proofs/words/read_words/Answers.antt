@@ -19,22 +19,26 @@ returns-then-is_shaped c =
     (restores (map text words) (map text (take (length words - 3) (drop 3 words))) c.is_chosen.result shaped (drop_images text 3 words) c.is_chosen.ensures)
 
 pub returns-then-is_shaped-2 : goal.returns-then-is_shaped-2
-returns-then-is_shaped-2 c = exact_answer (map (string_bytes {Z = Global}) c.args.words.now) c.read_simulate.result c.read_simulate.ensures
+returns-then-is_shaped-2 c = exact_answer (map (string_bytes {Z = Global}) c.args.words.now) c.read_select.result c.read_select.ensures
 
 pub returns-then-is_shaped-3 : goal.returns-then-is_shaped-3
-returns-then-is_shaped-3 c =
-    let words : List (List ℕ) = map (string_bytes {Z = Global}) c.args.words.now in
-    exact_answer words (Ok settings.Print) (shape_print words (c.is_shaped-else-is_shaped-2.ensures.0 c.if-is_shaped-3.true))
-
-pub read_load-requires : goal.read_load-requires
-read_load-requires c = c.is_shaped-else-is_shaped-3.ensures.0 c.if-is_shaped-4.true
+returns-then-is_shaped-3 c = exact_answer (map (string_bytes {Z = Global}) c.args.words.now) c.read_simulate.result c.read_simulate.ensures
 
 pub returns-then-is_shaped-4 : goal.returns-then-is_shaped-4
-returns-then-is_shaped-4 c = exact_answer (map (string_bytes {Z = Global}) c.args.words.now) c.read_load.result c.read_load.ensures
+returns-then-is_shaped-4 c =
+    let words : List (List ℕ) = map (string_bytes {Z = Global}) c.args.words.now in
+    exact_answer words (Ok settings.Print) (shape_print words (c.is_shaped-else-is_shaped-3.ensures.0 c.if-is_shaped-4.true))
 
-pub returns-else-is_shaped-4 : goal.returns-else-is_shaped-4
-returns-else-is_shaped-4 c =
+pub read_load-requires : goal.read_load-requires
+read_load-requires c = c.is_shaped-else-is_shaped-4.ensures.0 c.if-is_shaped-5.true
+
+pub returns-then-is_shaped-5 : goal.returns-then-is_shaped-5
+returns-then-is_shaped-5 c = exact_answer (map (string_bytes {Z = Global}) c.args.words.now) c.read_load.result c.read_load.ensures
+
+pub returns-else-is_shaped-5 : goal.returns-else-is_shaped-5
+returns-else-is_shaped-5 c =
     let words : List (List ℕ) = map (string_bytes {Z = Global}) c.args.words.now in
     exact_answer words (Err refusals.Usage)
     (no_shape words (λ shaped. false≢true (sym c.if-is_shaped.false ∙ c.is_shaped.ensures.1 shaped)) (λ shaped. false≢true (sym c.if-is_shaped-2.false ∙ c.is_shaped-else-is_shaped.ensures.1 shaped))
-    (λ shaped. false≢true (sym c.if-is_shaped-3.false ∙ c.is_shaped-else-is_shaped-2.ensures.1 shaped)) (λ shaped. false≢true (sym c.if-is_shaped-4.false ∙ c.is_shaped-else-is_shaped-3.ensures.1 shaped)))
+    (λ shaped. false≢true (sym c.if-is_shaped-3.false ∙ c.is_shaped-else-is_shaped-2.ensures.1 shaped)) (λ shaped. false≢true (sym c.if-is_shaped-4.false ∙ c.is_shaped-else-is_shaped-3.ensures.1 shaped))
+    (λ shaped. false≢true (sym c.if-is_shaped-5.false ∙ c.is_shaped-else-is_shaped-4.ensures.1 shaped)))
