@@ -53,6 +53,14 @@ for dump in uart uart.inputs; do
     tail -n 1 $dump.table
 done
 
+step 'four flip-flops worth tracing, with the reset held still, and what a trace of them would restore'
+sed 's/^INPUT(rst)$/rst = XOR(write, write)/' uart.bench >still.bench
+"$srestore" select still.bench width=4 cycles=256 seed=1 >picks
+cat picks
+cut -d ' ' -f 1 picks >picks.names
+"$here/vcd_to_dump" "${wave[@]}" names=picks.names >picks.dump
+"$srestore" restore uart.bench picks.dump | tail -n 1
+
 step 'a waveform: the simulation, and beside it, in the scope `restored`, the table'
 "$here/table_to_vcd" uart.inputs.table "${wave[@]}" >uart.both.vcd
 echo 'to see it: gtkwave uart.both.vcd'

@@ -338,7 +338,7 @@ linear 'a large netlist and dump' 'names SIZE.bench SIZE.table; [ $? -eq 1 ]'
 
 # --- the pages
 
-for page in "$here/README.md" "$here/../README.md" "$here/../many/README.md" "$here/../../README.md"; do
+for page in "$here/README.md" "$here/../README.md" "$here/../many/README.md" "$here/../../README.md" "$here/../../docs/USING.md"; do
     if said=$("$here/../try_page" "$page"); then
         passed=$((passed + 1))
     else
