@@ -27,9 +27,12 @@ ForcesAt-with u few many p l f known = record {
   };
 }
 
+pub ForcesAt-more : (u : Unrolled) (few many : LitSet) → IsWithin few many → (p : Place) (l : Lit) → ForcesAt u few p l → ForcesAt u many p l
+ForcesAt-more u few many within p l f = ForcesAt-with u few many p l f (All-weaker few many within f.forces.part f.forces.part_known)
+
 pub ForcesSomewhere-more : (u : Unrolled) (few many : LitSet) → IsWithin few many → IsWithin (ForcesSomewhere u few) (ForcesSomewhere u many)
 ForcesSomewhere-more u few many within l (p, f) =
-    (p, ForcesAt-with u few many p l f (All-weaker few many within f.forces.part f.forces.part_known))
+    (p, ForcesAt-more u few many within p l f)
 
 -- the literals of an execution are closed
 pub closed_execution : (u : Unrolled) (v : Valuation) → IsExecution u v → IsClosed u (Has v)

@@ -161,7 +161,7 @@ place_within u p i is =
     )
 
 module _ (u : Unrolled) (known : Lit → Bool) (l : Lit) where
-  decided_by : (p : Place) (o : Option Instance) → instance_at u p ≡ o → Decided (ForcesAt u (passing known) p l)
+  pub decided_by : (p : Place) (o : Option Instance) → instance_at u p ≡ o → Decided (ForcesAt u (passing known) p l)
   decided_by p None is = inr (λ f. let e : Some f.instance ≡ None = sym f.stands ∙ is in absurd (cc))
   decided_by p (Some i) is =
       decided_as (Forces i (passing known) l) (ForcesAt u (passing known) p l)
@@ -169,7 +169,7 @@ module _ (u : Unrolled) (known : Lit → Bool) (l : Lit) where
       (λ f. let e : Some f.instance ≡ Some i = sym f.stands ∙ is in let same : f.instance ≡ i = cc in subst (λ j. Forces j (passing known) l) same f.forces)
       (decided_forces known i l)
 
-  abbrev ForcesIn : ℕ → Type 0
+  abbrev pub ForcesIn : ℕ → Type 0
   ForcesIn cycle = (target : ℕ) × (target < length u.drivers) × ForcesAt u (passing known) (place cycle target) l
 
   pub decided_somewhere : Decided (ForcesSomewhere u (passing known) l)

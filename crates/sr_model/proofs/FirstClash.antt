@@ -7,7 +7,7 @@ use Rattle.std.proofs.lemmas.List.Elements.{Contains-append_left, Contains-appen
 use Rattle.sr_model.specs.declared.cells.Cell.{Cell}
 use Rattle.sr_model.specs.declared.cells.Lit.{Lit}
 use Rattle.sr_model.specs.Netlist.{Unrolled, cell_at}
-use Rattle.sr_model.specs.Closure.{Closure, IsWithin, SameLits, HasBoth, level, passing, lit}
+use Rattle.sr_model.specs.Closure.{Closure, IsLeastClash, IsWithin, SameLits, HasBoth, level, passing, lit}
 use Rattle.sr_model.specs.Dump.{Row, Known, dump_has, is_bit}
 use Rattle.sr_model.specs.Decisions.{IsConsistent, HasFirstClash}
 use Rattle.sr_model.proofs.lemmas.Members.{Contains-here}
@@ -55,6 +55,14 @@ module _ (u : Unrolled) (base : Lit → Bool) (cells : List Cell) (within : IsWi
         )
       ]
 
+  -- a level has a least cell with both literals, or none
+  pub level_clash : (i : ℕ) → ((c : Cell) → HasBoth (level u (passing base) i) c → ⊥) ⊎ ((c : Cell) × IsLeastClash (level u (passing base) i) c)
+  level_clash i =
+      elim (least_cell (ClashAt i) (decided_clash i) all_cells) [
+        | inl none ↦ inl (λ c both. none c (level-cell i (lit c false) both.0) both)
+        | inr least ↦ inr (least.0, record { both = least.1; least = λ d both. least.2 d (level-cell i (lit d false) both.0) both })
+      ]
+
   pub clash_or_none : IsConsistent (Closure u (passing base)) ⊎ HasFirstClash u (passing base)
   clash_or_none =
       let last : ℕ = (last_level u base).0 in
@@ -96,3 +104,6 @@ dump-cell (row ∷ rows) l holds =
 
 pub dump_clash_or_none : (u : Unrolled) (rows : List Row) → IsConsistent (Known u rows) ⊎ HasFirstClash u (passing (dump_has rows))
 dump_clash_or_none u rows = clash_or_none u (dump_has rows) (cells_of_rows rows) (λ l holds. dump-cell rows l holds)
+
+pub dump_level_clash : (u : Unrolled) (rows : List Row) (i : ℕ) → ((c : Cell) → HasBoth (level u (passing (dump_has rows)) i) c → ⊥) ⊎ ((c : Cell) × IsLeastClash (level u (passing (dump_has rows)) i) c)
+dump_level_clash u rows i = level_clash u (dump_has rows) (cells_of_rows rows) (λ l holds. dump-cell rows l holds) i

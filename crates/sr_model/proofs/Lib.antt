@@ -8,6 +8,7 @@ mod FirstClash
 mod Forcing
 mod FromNothing
 mod KindLaws
+mod LeastPlaces
 mod Missed
 mod OddCells
 mod OddCounts

@@ -2,6 +2,7 @@
 pub mod Members
 pub mod Instances
 pub mod Laws
+pub mod Decisions
 pub mod AndRules
 pub mod ParityRules
 pub mod FromNothing
