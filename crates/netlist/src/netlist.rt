@@ -79,10 +79,11 @@ impl Netlist {
         self.wiring.signals()
     }
 
-    /// The bytes of a signal's name.
+    /// The bytes of a signal's name: 255 at most.
     pub fn name(&self, s: Sig) -> &[u8]
         requires { s.0 < length self.now.drivers }
-        ensures { slice_get self.now.names s.0 ≡ Some result.now }
+        ensures name { slice_get self.now.names s.0 ≡ Some result.now }
+        ensures short { length result.now ≤ 255 }
     {
         self.names.get(s.0 as usize)
     }

@@ -15,7 +15,7 @@ returns-in_ok-extend_from_slice-5 c =
     let kind = c.in-Some.kind in
     driver_pushed c.args.text.now.items name (kind_text kind) (listed (map (name_in names) pins)) c.extend_from_slice.new.self.items c.extend_from_slice-in-Some.new.self.items
     c.extend_from_slice-in-Some-2.new.self.items c.extend_from_slice-in-Some-3.new.self.items c.push_listed.new.text.items c.extend_from_slice-in-Some-4.new.self.items
-    (c.in_ok-extend_from_slice.ensures.items ∙ ap (λ t. c.args.text.now.items ++ t) (sym (get_or_from_slice_get names c.args.s.0 c.name.result.now [] c.name.ensures)))
+    (c.in_ok-extend_from_slice.ensures.items ∙ ap (λ t. c.args.text.now.items ++ t) (sym (get_or_from_slice_get names c.args.s.0 c.name.result.now [] c.name.ensures.name)))
     c.in_ok-extend_from_slice-2.ensures.items
     (c.in_ok-extend_from_slice-3.ensures.items ∙ ap (λ t. c.extend_from_slice-in-Some.new.self.items ++ t) c.kind_word.ensures)
     c.in_ok-extend_from_slice-4.ensures.items c.in_ok-push_listed.ensures c.in_ok-extend_from_slice-5.ensures.items

@@ -17,4 +17,4 @@ loop-i-preserved c =
     ] in
     listed_more (name_in c.args.n.now.names) c.args.pins.now c.loop-i.i (record { 0 = 0 }) c.args.text.now.items c.loop-i.text.items c.if-i-gt0.text.items
     c.extend_from_slice-in-loop-i.new.self.items (omega arith) c.loop-i.invariant joint
-    (c.in_ok-extend_from_slice-2.ensures.items ∙ ap (λ t. c.if-i-gt0.text.items ++ t) (sym (get_or_from_slice_get c.args.n.now.names pin.0 c.name.result.now [] c.name.ensures)))
+    (c.in_ok-extend_from_slice-2.ensures.items ∙ ap (λ t. c.if-i-gt0.text.items ++ t) (sym (get_or_from_slice_get c.args.n.now.names pin.0 c.name.result.now [] c.name.ensures.name)))

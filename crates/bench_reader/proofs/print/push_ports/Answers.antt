@@ -13,5 +13,5 @@ loop-port-preserved c =
     c.loop-port.invariant
     (port_pushed c.loop-port.text.items c.args.word.now (name_in c.args.n.now.names port) c.extend_from_slice.new.self.items c.extend_from_slice-in-loop-port.new.self.items
     c.extend_from_slice-in-loop-port-2.new.self.items last c.in_ok-extend_from_slice.ensures.items c.in_ok-extend_from_slice-2.ensures.items
-    (c.in_ok-extend_from_slice-3.ensures.items ∙ ap (λ t. c.extend_from_slice-in-loop-port.new.self.items ++ t) (sym (get_or_from_slice_get c.args.n.now.names port.0 c.name.result.now [] c.name.ensures)))
+    (c.in_ok-extend_from_slice-3.ensures.items ∙ ap (λ t. c.extend_from_slice-in-loop-port.new.self.items ++ t) (sym (get_or_from_slice_get c.args.n.now.names port.0 c.name.result.now [] c.name.ensures.name)))
     c.in_ok-extend_from_slice-4.ensures.items)

@@ -8,5 +8,5 @@ use Rattle.report.proofs.clash.write_clash.Goals as goal
 pub returns : goal.returns
 returns g c =
     subst (Writes g.K.Sink.written g.K.Sink.room g.K.Sink.faults c.args.out.now c.write_pieces.new.out c.write_pieces.result)
-    (clash_joined c.args.n.now c.args.cell c.name.result.now c.digits-number.result.now (sym (get_or_from_slice_get c.args.n.now.names c.args.cell.sig.0 c.name.result.now [] c.name.ensures)) (c.digits-number.ensures ∙ ap decimal c.from.ensures))
+    (clash_joined c.args.n.now c.args.cell c.name.result.now c.digits-number.result.now (sym (get_or_from_slice_get c.args.n.now.names c.args.cell.sig.0 c.name.result.now [] c.name.ensures.name)) (c.digits-number.ensures ∙ ap decimal c.from.ensures))
     c.write_pieces.ensures

@@ -12,4 +12,4 @@ returns-clause-text c =
     ∙ ap (λ xs. xs ++ 10 ∷ []) (c.fill_cells-filled.ensures.text
     ∙ ap (λ xs. xs ++ cells_text (has c.args.p.now c.args.planes.now) c.args.sig c.args.p.now.cycles) (c.put_text-spaced.ensures.text ∙ ap (λ xs. xs ++ 32 ∷ []) c.put_text-named.ensures.text))
     ∙ row_made c.args.p.now.circuit c.args.p.now.cycles (has c.args.p.now c.args.planes.now) c.args.sig c.name.result.now
-    (subst (λ (n : Circuit). slice_get n.names c.args.sig.0 ≡ Some c.name.result.now) c.net.ensures.net c.name.ensures)
+    (subst (λ (n : Circuit). slice_get n.names c.args.sig.0 ≡ Some c.name.result.now) c.net.ensures.net c.name.ensures.name)
