@@ -15,7 +15,7 @@ use Rattle.known_planes.specs.Planes.{PlaneSet, has}
 use Rattle.plain_close.specs.declared.changes.Change.{Change}
 use Rattle.plain_close.specs.declared.worklist.Worklist.{Worklist}
 use Rattle.plain_close.specs.Worklist.{IsWorklistOf, TaskWaits}
-use Rattle.plain_close.specs.Changes.{AreKept, ForcesChunk, ForcesTask, IsForcedChange, IsListed, changes_in}
+use Rattle.plain_close.specs.Changes.{AreKept, ForcesChunk, ForcesTask, IsForcedChange, IsListedBy, changes_in}
 use Rattle.plain_close.proofs.Turning.{same-tasks}
 
 -- what the chunk's tasks that waited and do so no more force is listed; of the tasks below a signal none waits
@@ -26,11 +26,11 @@ pub record ForcesBelow (u : Unrolling) (planes : PlaneSet) (chunk from : ℕ) (b
   pub size : length new ≡ length old
   pub kept : AreKept old new
   pub only : (at : ℕ) (change : Change) → Contains (changes_in new at) change → Contains (changes_in old at) change ⊎ IsForcedChange u (has u planes) chunk at change
-  pub all : (t : Task) → IsTask u t → chunk_of u t ≡ chunk → TaskWaits u before t → TaskWaits u after t ⊎ ((l : Lit) → ForcedIn u t (has u planes) l → (has u planes l ≡ true) ⊎ IsListed new l)
+  pub all : (t : Task) → IsTask u t → chunk_of u t ≡ chunk → TaskWaits u before t → TaskWaits u after t ⊎ ((l : Lit) → ForcedIn u t (has u planes) l → (has u planes l ≡ true) ⊎ IsListedBy new (target_of u t) l)
 
 -- what is listed stays so
-still-listed : (old new : List (WithRoom Change)) → AreKept old new → (l : Lit) → IsListed old l → IsListed new l
-still-listed old new kept l h = record { change = h.change; listed = kept (l.cell.cycle / 64) h.change h.listed; signal = h.signal; set = h.set }
+pub still-listed : (old new : List (WithRoom Change)) → AreKept old new → (cause : Sig) (l : Lit) → IsListedBy old cause l → IsListedBy new cause l
+still-listed old new kept cause l (h, by) = (record { change = h.change; listed = kept (l.cell.cycle / 64) h.change h.listed; signal = h.signal; set = h.set }, by)
 
 module _ (u : Unrolling) (planes : PlaneSet) (chunk : ℕ) (before : Worklist) (old : List (WithRoom Change)) where
   pub forces-none : IsWorklistOf u before → ForcesBelow u planes chunk 0 before before old old
@@ -69,11 +69,12 @@ module _ (u : Unrolling) (planes : PlaneSet) (chunk : ℕ) (before : Worklist) (
           | inl still ↦ inl still
           | inr (of, in_chunk) ↦
               let one : task_at u s chunk ≡ t = ap (λ r. task_at u r chunk) (sym of) ∙ ap (task_at u (target_of u t)) (sym in_chunk) ∙ task-itself u t in
-              inr (λ l f. forces.all l (subst (λ k. ForcedIn u k (has u planes) l) (sym one) f))
+              inr (λ l f.
+              subst (λ r. (has u planes l ≡ true) ⊎ IsListedBy new r l) (sym of) (forces.all l (subst (λ k. ForcedIn u k (has u planes) l) (sym one) f)))
         ]
         | inr forced ↦ inr (λ l f. elim (forced l f) [
           | inl known ↦ inl known
-          | inr listed ↦ inr (still-listed some new forces.kept l listed)
+          | inr listed ↦ inr (still-listed some new forces.kept (target_of u t) l listed)
         ])
       ];
     }

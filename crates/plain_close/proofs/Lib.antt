@@ -1,3 +1,4 @@
+mod AddedLevels
 mod Adding
 mod AddingChange
 mod AddingRow
@@ -6,13 +7,21 @@ mod CalmTasks
 mod ChangeLists
 mod FewBlocks
 mod Firsts
+mod FoundSteps
 mod ForcedChanges
 mod ForcedChunks
 mod Joining
+mod LeastPlaces
+mod LeastSteps
 mod ListedChanges
+mod ListedLevels
 mod LevelsBelow
 mod Listing
+mod LogExists
+mod LoggedLevels
 mod NoClash
+mod OneLog
+mod StepOrder
 mod Stepping
 mod Stirring
 mod TurnedTasks
@@ -21,3 +30,5 @@ mod UnderWay
 mod Unknown
 mod Viewing
 mod Waking
+mod WholeLog
+pub mod lemmas

@@ -61,7 +61,8 @@ pub record ListsFirst (u : Unrolling) (planes : PlaneSet) (task : InChunk) (agai
   pub only : (at : ℕ) (change : Change) → Contains (changes_in new at) change → Contains (changes_in old at) change ⊎ IsNewChange u planes task again blocks words at change
   pub all : (j i : ℕ) (bit : Bool) → j < n → i < 64 → bit_at_place words j bit i ≡ true
       → (has_bit planes (block_of_index blocks j) bit i ≡ true)
-      ⊎ ((change : Change) × Contains (changes_in new (chunk_at u (block_of_index blocks j))) change × (change.sig ≡ sig_at u (block_of_index blocks j)) × (is_set (word_for bit change.words) i ≡ true))
+      ⊎ ((change : Change) × Contains (changes_in new (chunk_at u (block_of_index blocks j))) change × (change.sig ≡ sig_at u (block_of_index blocks j)) × (is_set (word_for bit change.words) i ≡ true)
+      × (change.cause ≡ task.sig))
 
 module _ (u : Unrolling) (planes : PlaneSet) (task : InChunk) (again : Bool) (in_chunks : List InChunk) (out : List PinWord) (old : List (WithRoom Change)) where
   abbrev blocks : List Block
@@ -140,7 +141,7 @@ module _ (u : Unrolling) (planes : PlaneSet) (task : InChunk) (again : Bool) (in
       all = λ j i bit early few h. elim (cases_lt j n) [
         | inl below ↦ elim (before.all j i bit below few h) [
           | inl known ↦ inl known
-          | inr (c, listed, signal, is) ↦ inr (c, push-kept mid this.chunk longer change few_chunks pushed (chunk_at u (block_of_index blocks j)) c listed, signal, is)
+          | inr (c, listed, signal, is, by) ↦ inr (c, push-kept mid this.chunk longer change few_chunks pushed (chunk_at u (block_of_index blocks j)) c listed, signal, is, by)
         ]
         | inr past ↦
             let same : n ≡ j = one-more j past early in
@@ -153,6 +154,7 @@ module _ (u : Unrolling) (planes : PlaneSet) (task : InChunk) (again : Bool) (in
                     (push-there mid this.chunk longer change few_chunks pushed),
                 sig ∙ sym (ap (λ k. sig_at u (block_of_index blocks k)) (sym same) ∙ ap (sig_at u) this-block ∙ block-sig u this.sig this.chunk this-inside.1),
                 ap (λ w. is_set (word_for bit w) i) words ∙ new,
+                cause,
               )
             ]
       ];

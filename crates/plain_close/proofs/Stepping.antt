@@ -12,8 +12,8 @@ use Rattle.sr_model.specs.Room.{WithRoom}
 use Rattle.sr_model.proofs.lemmas.Members.{All-from_Contains, not_in_nil}
 use Rattle.unroll.specs.declared.problem.Task.{Task}
 use Rattle.unroll.specs.Problem.{Unrolling, block_at, bit_of, cell_of, chunks_in, unrolled}
-use Rattle.unroll.specs.Tasks.{CellRole, IsTask, chunk_of, target_of, task_of}
-use Rattle.unroll.proofs.lemmas.Laws.{bit-small, cell-itself, each_in_one_task, role}
+use Rattle.unroll.specs.Tasks.{CellRole, IsTask, chunk_of, target_of, task_at, task_of}
+use Rattle.unroll.proofs.lemmas.Laws.{bit-small, block-chunk, cell-itself, each_in_one_task, role}
 use Rattle.unroll.proofs.lemmas.Tasks.{cell-chunk, cell-in_time, delay-cases, later-chunk}
 use Rattle.gate_rules.specs.Forced.{ForcedIn}
 use Rattle.gate_rules.proofs.lemmas.Laws.{forced_by_cells, forced_on_cells}
@@ -120,10 +120,10 @@ module _ (u : Unrolling) (base : PlaneSet) (levels : ℕ → ℕ) (chunk here : 
         elim (forces.only (l.cell.cycle / 64) h.change h.listed) [
           | inl old ↦ is.sound l early (record { change = h.change; listed = old; signal = h.signal; set = h.set })
           | inr new ↦
-              let found = new.forced l.bit (bit_of l.cell) (bit-small l.cell) h.set in
               let one : lit (cell_of u (block_at u h.change.sig (l.cell.cycle / 64)) (bit_of l.cell)) l.bit ≡ l =
               ap (λ s. lit (cell_of u (block_at u s (l.cell.cycle / 64)) (bit_of l.cell)) l.bit) h.signal ∙ ap (λ c. lit c l.bit) (cell-itself u l.cell early) in
-              forced-next found.0 found.2 l (subst (ForcedIn u found.0 (has u w.planes)) one found.3)
+              forced-next (task_at u h.change.cause chunk) (block-chunk u h.change.cause chunk new.task.early) l
+              (subst (ForcedIn u (task_at u h.change.cause chunk) (has u w.planes)) one (new.forced l.bit (bit_of l.cell) (bit-small l.cell) h.set))
         ]
 
     -- each task waits on, or what it forces is known or listed
@@ -131,7 +131,7 @@ module _ (u : Unrolling) (base : PlaneSet) (levels : ℕ → ℕ) (chunk here : 
     settled-listed t task =
         elim (is.settled t task) [
           | inl waited ↦ elim (cases_eq (chunk_of u t) chunk) [
-            | inl same ↦ inr (forces.all t task same waited)
+            | inl same ↦ inr (λ l f. elim (forces.all t task same waited l f) [ inl known ↦ inl known | inr new ↦ inr new.0 ])
             | inr other ↦ inl (forces.others t other waited)
           ]
           | inr done ↦ inr (λ l f. elim (done l f) [

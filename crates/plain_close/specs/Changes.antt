@@ -12,7 +12,7 @@ use Rattle.unroll.specs.declared.words.PinWord.{PinWord}
 use Rattle.unroll.specs.declared.problem.Task.{Task}
 use Rattle.unroll.specs.Bits.{is_set, word_for}
 use Rattle.unroll.specs.Problem.{Unrolling, HasNoLaterBit, IsInside, block_at, bit_of, cell_of, chunk_at, sig_at}
-use Rattle.unroll.specs.Tasks.{IsCellOf, IsTask, IsTaskAt, chunk_of, task_at}
+use Rattle.unroll.specs.Tasks.{IsCellOf, IsTask, IsTaskAt, chunk_of, target_of, task_at}
 use Rattle.unroll.specs.Waiting.{Waits}
 use Rattle.gate_rules.specs.Forced.{ForcedIn, bit_at_place}
 use Rattle.known_planes.specs.Counts.{literal_count}
@@ -42,6 +42,10 @@ pub record HasChange (changes : List Change) (l : Lit) : Type 0 where
 abbrev pub IsListed : List (WithRoom Change) → Lit → Type 0
 IsListed lists l = HasChange (changes_in lists (l.cell.cycle / 64)) l
 
+-- one whose cause is this signal
+abbrev pub IsListedBy : List (WithRoom Change) → Sig → Lit → Type 0
+IsListedBy lists cause l = (h : IsListed lists l) × (h.change.cause ≡ cause)
+
 -- whatever is added of what the task forces, it forces no more
 abbrev pub IsCalm : Unrolling → Task → (Lit → Bool) → Type 0
 IsCalm u t known =
@@ -54,23 +58,24 @@ pub record IsOwnChange (u : Unrolling) (known : Lit → Bool) (chunk : ℕ) (cha
   pub forced : (bit : Bool) (i : ℕ) → i < 64 → is_set (word_for bit change.words) i ≡ true → ForcedIn u (task_at u change.cause chunk) known (lit (cell_of u (block_at u change.sig chunk) i) bit)
   pub calm : IsCalm u (task_at u change.cause chunk) known
 
--- the tasks of one chunk force all that a new change has
+-- the task of its cause in the chunk forces all that a new change has, and none of it is known
 pub record IsForcedChange (u : Unrolling) (known : Lit → Bool) (chunk at : ℕ) (change : Change) : Type 0 where
   pub is : IsChange u at change
-  pub forced : (bit : Bool) (i : ℕ) → i < 64 → is_set (word_for bit change.words) i ≡ true
-      → (t : Task) × IsTask u t × (chunk_of u t ≡ chunk) × ForcedIn u t known (lit (cell_of u (block_at u change.sig at) i) bit)
+  pub task : IsTaskAt u (record { sig = change.cause; chunk = chunk })
+  pub forced : (bit : Bool) (i : ℕ) → i < 64 → is_set (word_for bit change.words) i ≡ true → ForcedIn u (task_at u change.cause chunk) known (lit (cell_of u (block_at u change.sig at) i) bit)
+  pub unknown : (bit : Bool) (i : ℕ) → i < 64 → is_set (word_for bit change.words) i ≡ true → IsFalse (known (lit (cell_of u (block_at u change.sig at) i) bit))
   pub own : IsFalse change.again → (at ≡ chunk) × IsOwnChange u known chunk change
 
 -- no change is lost
 abbrev pub AreKept : List (WithRoom Change) → List (WithRoom Change) → Type 0
 AreKept old new = (at : ℕ) (change : Change) → Contains (changes_in old at) change → Contains (changes_in new at) change
 
--- what a task of the chunk forces from the planes is listed, where it is not known
+-- what a task of the chunk forces from the planes is listed with its signal as the cause, where it is not known
 pub record ForcesTask (u : Unrolling) (planes : PlaneSet) (task : InChunk) (old new : List (WithRoom Change)) : Type 0 where
   pub size : length new ≡ length old
   pub kept : AreKept old new
   pub only : (at : ℕ) (change : Change) → Contains (changes_in new at) change → Contains (changes_in old at) change ⊎ IsForcedChange u (has u planes) task.chunk at change
-  pub all : (l : Lit) → ForcedIn u (task_at u task.sig task.chunk) (has u planes) l → (has u planes l ≡ true) ⊎ IsListed new l
+  pub all : (l : Lit) → ForcedIn u (task_at u task.sig task.chunk) (has u planes) l → (has u planes l ≡ true) ⊎ IsListedBy new task.sig l
 
 -- what the waiting tasks of the chunk force is; none of them waits any more
 pub record ForcesChunk (u : Unrolling) (planes : PlaneSet) (chunk : ℕ) (before after : Worklist) (old new : List (WithRoom Change)) : Type 0 where
@@ -80,7 +85,7 @@ pub record ForcesChunk (u : Unrolling) (planes : PlaneSet) (chunk : ℕ) (before
   pub size : length new ≡ length old
   pub kept : AreKept old new
   pub only : (at : ℕ) (change : Change) → Contains (changes_in new at) change → Contains (changes_in old at) change ⊎ IsForcedChange u (has u planes) chunk at change
-  pub all : (t : Task) → IsTask u t → chunk_of u t ≡ chunk → TaskWaits u before t → (l : Lit) → ForcedIn u t (has u planes) l → (has u planes l ≡ true) ⊎ IsListed new l
+  pub all : (t : Task) → IsTask u t → chunk_of u t ≡ chunk → TaskWaits u before t → (l : Lit) → ForcedIn u t (has u planes) l → (has u planes l ≡ true) ⊎ IsListedBy new (target_of u t) l
 
 -- where the task does not wait, nothing of its cells has changed, or only what it forces itself
 abbrev pub IsQuiet : Unrolling → ℕ → Task → PlaneSet → PlaneSet → Worklist → Type 0
@@ -139,4 +144,5 @@ pub record ListsNew (u : Unrolling) (planes : PlaneSet) (task : InChunk) (again 
   pub only : (at : ℕ) (change : Change) → Contains (changes_in new at) change → Contains (changes_in old at) change ⊎ IsNewChange u planes task again blocks words at change
   pub all : (j i : ℕ) (bit : Bool) → j < length blocks → i < 64 → bit_at_place words j bit i ≡ true
       → (has_bit planes (slice_index_or blocks j (record { 0 = 0 })) bit i ≡ true)
-      ⊎ ((change : Change) × Contains (changes_in new (chunk_at u (slice_index_or blocks j (record { 0 = 0 })))) change × (change.sig ≡ sig_at u (slice_index_or blocks j (record { 0 = 0 }))) × (is_set (word_for bit change.words) i ≡ true))
+      ⊎ ((change : Change) × Contains (changes_in new (chunk_at u (slice_index_or blocks j (record { 0 = 0 })))) change × (change.sig ≡ sig_at u (slice_index_or blocks j (record { 0 = 0 }))) × (is_set (word_for bit change.words) i ≡ true)
+      × (change.cause ≡ task.sig))

@@ -1,6 +1,7 @@
-//! Closers and levels on small netlists, with values that were worked out by hand.
+//! Closers, levels and logs on small netlists, with values that were worked out by hand.
 mod closing;
 mod levels;
+mod logs;
 
 use netlist::{Netlist, are_statements, build};
 use sr_model::{Bytes, Kind, Names, Numbered, Statement, Statements};
