@@ -1,0 +1,10 @@
+pub mod Checking
+pub mod Forms
+pub mod Grammar
+pub mod Known
+pub mod Laws
+pub mod Logs
+pub mod Printed
+pub mod Refusal
+pub mod Tokens
+pub mod Validity
