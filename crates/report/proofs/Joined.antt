@@ -50,3 +50,8 @@ texts_at f xs i d h =
 -- the texts before one, and that text
 pub texts_more : {A : Type 0} (f : A → List ℕ) (xs : List A) (i : ℕ) (d : A) → i < length xs → flat_map f (take (i + 1) xs) ≡ flat_map f (take i xs) ++ f (get_or xs i d)
 texts_more f xs i d h = ap (flat_map f) (take_more xs i d h) ∙ flat_map-append f (take i xs) (get_or xs i d ∷ []) ∙ ap (λ ys. flat_map f (take i xs) ++ ys) (append-nil (f (get_or xs i d)))
+
+-- a text, those before one behind it, and those from there on
+pub texts_behind : {A : Type 0} (f : A → List ℕ) (head : List ℕ) (xs : List A) (i : ℕ) → head ++ flat_map f xs ≡ (head ++ flat_map f (take i xs)) ++ flat_map f (drop i xs)
+texts_behind f head xs i =
+    ap (λ ys. head ++ ys) (ap (flat_map f) (sym (take-append-drop i xs)) ∙ flat_map-append f (take i xs) (drop i xs)) ∙ sym (append_assoc head (flat_map f (take i xs)) (flat_map f (drop i xs)))

@@ -1,3 +1,4 @@
+mod Buffered
 mod Cells
 mod CommentLine
 mod InTurn

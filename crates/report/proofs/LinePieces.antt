@@ -1,11 +1,12 @@
 -- The pieces of the lines of refusals and of contradictions.
-use Rattle.std.proofs.Common.{◌≡◌, ℕ, List, [], ◌++◌, get_or, ap, ◌∙◌, append_assoc}
+use Rattle.std.proofs.Common.{◌≡◌, ℕ, List, [], ◌++◌, get_or, Option, None, Some, refl, sym, ap, ◌∙◌, append_assoc}
 use Rattle.std.proofs.lemmas.List.{append-nil}
 use Rattle.std.specs.Prelude.{codes}
 use Rattle.std.specs.Fmt.{decimal}
 use Rattle.sr_model.specs.declared.cells.Cell.{Cell}
 use Rattle.netlist.specs.Circuit.{Circuit}
 use Rattle.ratio.specs.Ratio.{Counts, in_thousandths}
+use Rattle.report.specs.Check.{accepted_line, checked_text}
 use Rattle.report.specs.Clash.{clash_line}
 use Rattle.report.specs.declared.refusal.Part.TheVariants as parts
 use Rattle.report.specs.InputRefusals.{refused_line}
@@ -44,3 +45,8 @@ load_joined number signals flip_flops counts a b c d e r is_a is_b is_c is_d is_
 pub pick_joined : (names : List (List ℕ)) (pick : Pick) (name a b r : List ℕ) → name ≡ get_or names pick.sig.0 [] → a ≡ decimal pick.ratio.known → b ≡ decimal pick.ratio.traced
     → r ≡ ratio_text (in_thousandths pick.ratio.known pick.ratio.traced) → name ++ (codes " " ++ (a ++ (codes "/" ++ (b ++ (codes " " ++ (r ++ (codes "\n" ++ []))))))) ≡ pick_line names pick
 pick_joined names pick name a b r is_name is_a is_b is_r = rw (is_name, is_a, is_b, is_r) (simp append_assoc)
+
+-- the line of a check, and what stands behind it
+pub checked_parts : (c : Circuit) (count : ℕ) (clash : Option Cell) → (more : List ℕ) × (checked_text c count clash ≡ accepted_line count ++ more)
+checked_parts c count None = ([], sym (append-nil (accepted_line count)))
+checked_parts c count (Some cell) = (clash_line c cell, refl)

@@ -1,4 +1,4 @@
--- The lines of the refusals of a netlist and of a dump.
+-- The lines of the refusals of a netlist, a dump and a certificate.
 use Rattle.std.specs.Prelude.{ℕ, List, ◌++◌, codes}
 use Rattle.std.specs.Fmt.{decimal}
 use Rattle.bench_reader.specs.declared.reader.BenchRefusal.{BenchRefusal}
@@ -7,12 +7,15 @@ use Rattle.netlist.specs.declared.checks.NetRefusal.{NetRefusal}
 use Rattle.netlist.specs.declared.checks.NetRefusal.TheVariants as net
 use Rattle.dump_reader.specs.declared.refusal.DumpRefusal.{DumpRefusal}
 use Rattle.dump_reader.specs.declared.refusal.DumpRefusal.TheVariants as dumps
+use Rattle.certificates.specs.declared.refusal.CertRefusal.{CertRefusal}
+use Rattle.certificates.specs.declared.refusal.CertRefusal.TheVariants as certs
 use Rattle.report.specs.declared.refusal.Part.{Part}
 use Rattle.report.specs.declared.refusal.Part.TheVariants as parts
 
 abbrev pub name_of : Part → List ℕ
 name_of parts.Netlist = codes "netlist"
 name_of parts.Dump = codes "dump"
+name_of parts.Certificate = codes "certificate"
 
 abbrev pub too_long_line : Part → List ℕ
 too_long_line part = codes "srestore: " ++ name_of part ++ codes ": 24 too long\n"
@@ -55,3 +58,11 @@ dump_line (dumps.RowLength line) = refused_line parts.Dump line (codes ": 15 row
 dump_line (dumps.BadBit line) = refused_line parts.Dump line (codes ": 16 bad bit\n")
 dump_line (dumps.TooManyCells line product) = refused_line parts.Dump line (codes ": 17 too many cells " ++ decimal product ++ codes "\n")
 dump_line dumps.NoMemory = no_memory_line
+
+-- what is written of a certificate that is refused
+abbrev pub cert_line : CertRefusal → List ℕ
+cert_line (certs.CertHead line) = refused_line parts.Certificate line (codes ": 18 bad head\n")
+cert_line (certs.CertSyntax line) = refused_line parts.Certificate line (codes ": 19 syntax\n")
+cert_line (certs.CertCell line) = refused_line parts.Certificate line (codes ": 20 no such cell\n")
+cert_line (certs.NotForced line) = refused_line parts.Certificate line (codes ": 21 not forced\n")
+cert_line certs.NoMemory = no_memory_line

@@ -1,3 +1,5 @@
+pub mod Buffers
+pub mod Check
 pub mod Clash
 pub mod InputRefusals
 pub mod Joined

@@ -6,7 +6,7 @@ use Rattle.report.specs.declared.refusal.WordRefusal.{WordRefusal}
 use Rattle.report.specs.declared.refusal.WordRefusal.TheVariants as word_refusals
 use Rattle.report.specs.declared.refusal.Refusal.{Refusal}
 use Rattle.report.specs.declared.refusal.Refusal.TheVariants as refusals
-use Rattle.report.specs.InputRefusals.{bench_line, dump_line, fault_line, net_line, no_memory_line, too_long_line}
+use Rattle.report.specs.InputRefusals.{bench_line, cert_line, dump_line, fault_line, net_line, no_memory_line, too_long_line}
 
 -- ---- words `key=value`
 
@@ -74,6 +74,7 @@ abbrev pub refusal_line : List (List ℕ) → Refusal → List ℕ
 refusal_line words (refusals.Bench refusal) = bench_line refusal
 refusal_line words (refusals.Net refusal) = net_line refusal
 refusal_line words (refusals.Dumped refusal) = dump_line refusal
+refusal_line words (refusals.Cert refusal) = cert_line refusal
 refusal_line words (refusals.Words refusal) = word_line words refusal
 refusal_line words (refusals.TooLong part) = too_long_line part
 refusal_line words (refusals.Fault part) = fault_line part

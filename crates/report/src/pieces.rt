@@ -1,5 +1,5 @@
-//! Writing a text whole or piece by piece.
-ghost use Rattle.std.specs.Prelude.{◌≡◌};
+//! Writing a text whole or piece by piece, and putting texts into bytes.
+ghost use Rattle.std.specs.Prelude.{◌≡◌, ◌≤◌, ◌+◌, ◌++◌, length, take};
 ghost use Rattle.std.specs.Fmt.{decimal};
 ghost use Rattle.report.specs.Joined.{joined};
 ghost use Rattle.report.specs.Writes.{Writes};
@@ -32,4 +32,16 @@ pub(crate) fn digits(buffer: &mut Buffer, number: u64) -> &[u8]
     ensures { result.now ≡ decimal number }
 {
     buffer.format(number).as_bytes()
+}
+
+/// Puts a text into the bytes from `start` on, and answers where it ends.
+pub(crate) fn put_text(text: &[u8], bytes: &mut [u8], start: usize) -> usize
+    requires { start + length text.now ≤ length bytes.old }
+    ensures end { result ≡ start + length text.now }
+    ensures size { length bytes.new ≡ length bytes.old }
+    ensures text { take result bytes.new ≡ take start bytes.old ++ text.now }
+{
+    let end = start + text.len();
+    bytes[start..end].copy_from_slice(text);
+    end
 }

@@ -6,10 +6,12 @@ ghost use Rattle.report.specs.Writes.{Writes};
 
 use crate::pieces::write_text;
 use crate::refusal_lines::{
-    write_bench_refusal, write_dump_refusal, write_fault, write_net_refusal, write_too_long,
+    write_bench_refusal, write_cert_refusal, write_dump_refusal, write_fault, write_net_refusal,
+    write_too_long,
 };
 use crate::word_lines::{write_many_cells, write_name, write_width_over, write_word_refusal};
 use bench_reader::BenchRefusal;
+use certificates::CertRefusal;
 use dump_reader::DumpRefusal;
 use netlist::NetRefusal;
 use sr_outside::{Sink, WriteFault};
@@ -19,6 +21,7 @@ use sr_outside::{Sink, WriteFault};
 pub enum Part {
     Netlist,
     Dump,
+    Certificate,
 }
 
 /// Why the words are refused.
@@ -40,6 +43,8 @@ pub enum Refusal {
     Net(NetRefusal),
     /// The dump's text is refused.
     Dumped(DumpRefusal),
+    /// The certificate is refused.
+    Cert(CertRefusal),
     /// The words are refused.
     Words(WordRefusal),
     /// An input has too many bytes.
@@ -69,6 +74,7 @@ pub fn write_refusal<K: Sink>(r: &Refusal, words: &[String], out: &mut K) -> Res
         Refusal::Bench(refusal) => write_bench_refusal(out, refusal),
         Refusal::Net(refusal) => write_net_refusal(out, refusal),
         Refusal::Dumped(refusal) => write_dump_refusal(out, refusal),
+        Refusal::Cert(refusal) => write_cert_refusal(out, refusal),
         Refusal::Words(refusal) => write_word_refusal(out, words, *refusal),
         Refusal::TooLong(part) => write_too_long(out, *part),
         Refusal::Fault(part) => write_fault(out, *part),

@@ -1,12 +1,13 @@
-//! The lines of the refusals of a netlist and of a dump.
+//! The lines of the refusals of a netlist, a dump and a certificate.
 ghost use Rattle.std.specs.Prelude.{◌≡◌, ◌++◌, codes};
 ghost use Rattle.std.specs.Fmt.{decimal};
-ghost use Rattle.report.specs.InputRefusals.{name_of, too_long_line, refused_line, bench_line, net_line, dump_line, fault_line};
+ghost use Rattle.report.specs.InputRefusals.{name_of, too_long_line, refused_line, bench_line, net_line, dump_line, cert_line, fault_line};
 ghost use Rattle.report.specs.Writes.{Writes};
 
 use crate::pieces::{digits, write_pieces, write_text};
 use crate::refusal::Part;
 use bench_reader::BenchRefusal;
+use certificates::CertRefusal;
 use dump_reader::DumpRefusal;
 use itoa::Buffer;
 use netlist::NetRefusal;
@@ -19,6 +20,7 @@ impl Part {
         match self {
             Part::Netlist => b"netlist",
             Part::Dump => b"dump",
+            Part::Certificate => b"certificate",
         }
     }
 }
@@ -101,6 +103,30 @@ pub(crate) fn write_dump_refusal<K: Sink>(
         }
         DumpRefusal::TooManyCells { line, product } => write_too_many_cells(out, line, product),
         DumpRefusal::NoMemory => write_text(out, b"srestore: no memory\n"),
+    }
+}
+
+/// Writes why a certificate is refused.
+pub(crate) fn write_cert_refusal<K: Sink>(
+    out: &mut K,
+    refusal: &CertRefusal,
+) -> Result<(), WriteFault>
+    ensures { Writes K.written K.room K.faults out.old out.new result (cert_line refusal.now) }
+{
+    match *refusal {
+        CertRefusal::CertHead { line } => {
+            write_refused_line(out, Part::Certificate, line, b": 18 bad head\n")
+        }
+        CertRefusal::CertSyntax { line } => {
+            write_refused_line(out, Part::Certificate, line, b": 19 syntax\n")
+        }
+        CertRefusal::CertCell { line } => {
+            write_refused_line(out, Part::Certificate, line, b": 20 no such cell\n")
+        }
+        CertRefusal::NotForced { line } => {
+            write_refused_line(out, Part::Certificate, line, b": 21 not forced\n")
+        }
+        CertRefusal::NoMemory => write_text(out, b"srestore: no memory\n"),
     }
 }
 

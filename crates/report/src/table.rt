@@ -14,7 +14,7 @@ ghost use Rattle.report.specs.Rows.{row_line, row_lines, cells_text, word_bit, w
 ghost use Rattle.report.specs.Table.{ratio_line, ratio_text, shown, table_text};
 ghost use Rattle.report.specs.Writes.{Writes};
 
-use crate::pieces::{digits, write_pieces, write_text};
+use crate::pieces::{digits, put_text, write_pieces, write_text};
 use crate::ratio_text::put_ratio;
 use crate::row_buf::RowBuf;
 use dump_reader::HEAD_START;
@@ -136,18 +136,6 @@ fn fill_row(p: &Problem, planes: &Planes, sig: Sig, bytes: &mut [u8]) -> usize
     let spaced = put_text(b" ", bytes, named);
     let filled = fill_cells(p, planes, sig, bytes, spaced);
     put_text(b"\n", bytes, filled)
-}
-
-/// Puts a text into the bytes from `start` on, and answers where it ends.
-fn put_text(text: &[u8], bytes: &mut [u8], start: usize) -> usize
-    requires { start + length text.now ≤ length bytes.old }
-    ensures end { result ≡ start + length text.now }
-    ensures size { length bytes.new ≡ length bytes.old }
-    ensures text { take result bytes.new ≡ take start bytes.old ++ text.now }
-{
-    let end = start + text.len();
-    bytes[start..end].copy_from_slice(text);
-    end
 }
 
 /// Puts a character for each cycle of a signal into the bytes from `start` on, and answers where they end. It goes by whole words, of 64 cycles each.

@@ -1,6 +1,8 @@
 //! Whole tables of what dumps record, and lines of picks, with the text that was worked out by hand. Nothing is restored here: the cells that a dump tells are those that are known.
 ghost use Rattle.std.specs.Prelude.{◌<◌, length};
 
+mod certificate_texts;
+
 use crate::{RowBuf, table_laws, write_picks, write_table};
 use bench_reader::read_bench;
 use dump_reader::read_dump;
