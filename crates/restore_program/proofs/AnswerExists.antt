@@ -24,25 +24,32 @@ use Rattle.cycle_sim.specs.Drawing.{drawn_bit}
 use Rattle.cycle_sim.specs.Load.{IsLoadSize}
 use Rattle.cycle_sim.specs.Simulation.{traced_rows}
 use Rattle.cycle_sim.proofs.lemmas.Laws.{simulation_exists}
+use Rattle.plain_close.proofs.lemmas.Laws.{log_exists}
+use Rattle.certificates.specs.Logs.{facts_of}
+use Rattle.certificates.specs.Printed.{cert_text}
+use Rattle.certificates.proofs.lemmas.Laws as certs
 use Rattle.greedy_select.proofs.lemmas.Laws.{picks_exist}
 use Rattle.report.specs.declared.refusal.Part.TheVariants as parts
 use Rattle.report.specs.declared.refusal.WordRefusal.TheVariants as word_refusals
+use Rattle.report.specs.Check.{checked_text}
 use Rattle.report.specs.Clash.{clash_line}
-use Rattle.report.specs.InputRefusals.{bench_line, dump_line, net_line, too_long_line}
+use Rattle.report.specs.InputRefusals.{bench_line, cert_line, dump_line, net_line, too_long_line}
 use Rattle.report.specs.Load.{load_line}
 use Rattle.report.specs.Picks.{pick_lines}
 use Rattle.report.specs.Refusals.{many_cells_line, trace_twice_line, unknown_trace_line, width_over_line, word_line}
 use Rattle.report.specs.Table.{table_text}
 use Rattle.restore_program.specs.declared.status.Status.{Status}
 use Rattle.restore_program.specs.declared.status.Status.TheVariants as statuses
-use Rattle.restore_program.specs.Answer.{most_bytes, IsNetlistText, RefusedNetlist, netlist_too_long, bad_line, no_netlist, traced_count, OnDump, OnRecording, dump_too_long, bad_dump, clash, table, IsNetlistOf, OnNetlist, RequestAnswer, usage, bad_number, asked}
+use Rattle.restore_program.specs.Texts.{most_bytes, IsDumpText, IsNetlistText, RefusedDump, RefusedNetlist, netlist_too_long, bad_line, no_netlist, certificate_too_long, bad_certificate, traced_count, dump_too_long, bad_dump}
+use Rattle.restore_program.specs.Answer.{IsDumpOf, OnCertificate, OnDump, OnRecording, clash, table, IsNetlistOf, OnNetlist, RequestAnswer, usage, bad_number, asked}
 use Rattle.restore_program.specs.AnswerLaws.{AnswerExists, IsServed}
+use Rattle.restore_program.specs.Certifying.{OnCertify, OnCheck, certified, ends_with, is_accepted, not_accepted}
 use Rattle.restore_program.specs.Loading.{IsLoadText, load_circuit, load_cycles, load_traced}
-use Rattle.restore_program.specs.Requests.{Request, Asks, restoration, selection, simulation, printing, loading}
+use Rattle.restore_program.specs.Requests.{Request, Asks, certification, checking, restoration, selection, simulation, printing, loading}
 use Rattle.restore_program.specs.Selecting.{OnSelect, ranked, too_many_cells, width_over}
 use Rattle.restore_program.specs.Tracing.{IsDrawnRun, OnTrace, names_in, unknown_name, name_twice, many_cells, refused_cells, refused_names, traced}
 use Rattle.restore_program.proofs.AskedLoad.{load_size}
-use Rattle.restore_program.proofs.Files.{behind_netlist, first_file}
+use Rattle.restore_program.proofs.Files.{behind_dump, behind_netlist, first_file}
 use Rattle.restore_program.proofs.NamesDecided.{names_decided}
 use Rattle.restore_program.proofs.OneAnswer.{is_circuit}
 use Rattle.restore_program.proofs.OneLoad.{load_is_circuit}
@@ -78,12 +85,24 @@ recording_decided c d all = elim (dump_clash_or_none (unrolled_over c d.cycles) 
       (table_text c d.cycles known.0 (traced_count c d) all, statuses.Done, table known.0 known.1 (λ cell both. consistent cell (known.1.0 _ both.0, known.1.0 _ both.1)))
 ]
 
-dump_decided : (c : Circuit) (bytes : List ℕ) (all : Bool) → Some_text (OnDump c bytes all)
-dump_decided c bytes all = elim (cases_lt (most_bytes parts.Dump) (length bytes)) [
-  | inl long ↦ (too_long_line parts.Dump, statuses.Dump, inl (dump_too_long long))
+dump_decided : (c : Circuit) (bytes : List ℕ) → Some_text (RefusedDump c bytes) ⊎ ((d : Recording) × IsDumpText c bytes d)
+dump_decided c bytes = elim (cases_lt (most_bytes parts.Dump) (length bytes)) [
+  | inl long ↦ inl (too_long_line parts.Dump, statuses.Dump, dump_too_long long)
   | inr short ↦ elim (dumps.read_or_refused c bytes) [
-    | inr (r, is, some) ↦ (dump_line r, statuses.Dump, inl (bad_dump r short some is))
-    | inl (d, spells) ↦ let (text, status, on) = recording_decided c d all in (text, status, inr (d, (short, spells), on))
+    | inr (r, is, some) ↦ inl (dump_line r, statuses.Dump, bad_dump r short some is)
+    | inl (d, spells) ↦ inr (d, (short, spells))
+  ]
+]
+
+certify_decided : (c : Circuit) (d : Recording) → Some_text (OnCertify c d)
+certify_decided c d = let (steps, ends, log) = log_exists (unrolled_over c d.cycles) d.rows in (cert_text c.names (facts_of steps) ends, ends_with ends, certified steps ends log)
+
+check_decided : (c : Circuit) → IsCircuit c → (d : Recording) (bytes : List ℕ) → Some_text (OnCheck c d bytes)
+check_decided c is d bytes = elim (cases_lt (most_bytes parts.Certificate) (length bytes)) [
+  | inl long ↦ (too_long_line parts.Certificate, statuses.Certificate, not_accepted _ _ (certificate_too_long long))
+  | inr short ↦ elim (certs.valid_or_refused c is d bytes) [
+    | inr (r, bad, some) ↦ (cert_line r, statuses.Certificate, not_accepted _ _ (bad_certificate r short some bad))
+    | inl (facts, ends, valid) ↦ (checked_text c (length facts) ends, ends_with ends, is_accepted facts ends (short, valid))
   ]
 ]
 
@@ -153,17 +172,36 @@ on_netlist held netlist P some each =
           (text, status, inr (c, (bytes, there, is), answer))
     ]
 
+on_dump : (held : Held) (dump : List ℕ) (c : Circuit) (P : Recording → List ℕ → Status → Type 0) → IsSome (held dump) → ((d : Recording) → IsDumpOf held dump c d → Some_text (P d)) → Some_text (OnDump held dump c P)
+on_dump held dump c P some each =
+    let (bytes, there) = held_bytes (held dump) some in
+    elim (dump_decided c bytes) [
+      | inl (text, status, refused) ↦ (text, status, inl (bytes, there, refused))
+      | inr (d, is) ↦
+          let (text, status, answer) = each d (bytes, there, is) in
+          (text, status, inr (d, (bytes, there, is), answer))
+    ]
+
+on_certificate : (held : Held) (certificate : List ℕ) (c : Circuit) → IsCircuit c → (d : Recording) → IsSome (held certificate) → Some_text (OnCertificate held certificate c d)
+on_certificate held certificate c is d some =
+    let (bytes, there) = held_bytes (held certificate) some in
+    let (text, status, on) = check_decided c is d bytes in
+    (text, status, (bytes, there, on))
+
 on_request : (held : Held) (words : List (List ℕ)) (request : Request) → Asks words request → IsServed held request → Some_text (RequestAnswer held request)
 on_request held words (restoration netlist dump all) asks there = on_netlist held netlist _ (there (parts.Netlist, netlist) (first_file (Some held) _ _)) (λ c is circuit.
-    let (bytes, there) = held_bytes (held dump) (there (parts.Dump, dump) (behind_netlist (Some held) netlist c _ _ is)) in
-    let (text, status, on) = dump_decided c bytes all in
-    (text, status, (bytes, there, on)))
+    on_dump held dump c _ (there (parts.Dump, dump) (behind_netlist (Some held) netlist c _ _ is)) (λ d read. recording_decided c d all))
 on_request held words (selection netlist width cycles seed) asks there = on_netlist held netlist _ (there (parts.Netlist, netlist) (first_file (Some held) _ _)) (λ c is circuit. selection_decided c circuit width cycles seed)
 on_request held words (simulation netlist cycles seed list) asks there = on_netlist held netlist _ (there (parts.Netlist, netlist) (first_file (Some held) _ _)) (λ c is circuit. trace_decided c circuit cycles seed list)
 on_request held words (printing netlist) asks there = on_netlist held netlist _ (there (parts.Netlist, netlist) (first_file (Some held) _ _)) (λ c is circuit. (bench_text c, statuses.Done, (refl, refl)))
 on_request held words (loading number signals) asks there =
     let (text, is) = load_text number signals (load_size words number signals asks) in
     (text, statuses.Done, (is, refl))
+on_request held words (certification netlist dump) asks there = on_netlist held netlist _ (there (parts.Netlist, netlist) (first_file (Some held) _ _)) (λ c is circuit.
+    on_dump held dump c _ (there (parts.Dump, dump) (behind_netlist (Some held) netlist c _ _ is)) (λ d read. certify_decided c d))
+on_request held words (checking netlist dump certificate) asks there = on_netlist held netlist _ (there (parts.Netlist, netlist) (first_file (Some held) _ _)) (λ c is circuit.
+    on_dump held dump c _ (there (parts.Dump, dump) (behind_netlist (Some held) netlist c _ _ is)) (λ d read.
+    on_certificate held certificate c circuit d (there (parts.Certificate, certificate) (behind_dump (Some held) netlist dump c d _ _ is read))))
 
 pub answer_exists : AnswerExists
 answer_exists words held served = elim (words_decided words) [

@@ -27,6 +27,10 @@ use Rattle.dump_reader.specs.declared.refusal.DumpRefusal.TheVariants as dumps
 use Rattle.dump_reader.specs.Recording.{Recording}
 use Rattle.unroll.specs.Problem.{Unrolling}
 use Rattle.known_planes.specs.Planes.{PlaneSet, has}
+use Rattle.sr_model.specs.declared.cells.Cell.{Cell}
+use Rattle.certificates.specs.declared.refusal.CertRefusal.{CertRefusal}
+use Rattle.certificates.specs.declared.refusal.CertRefusal.TheVariants as certs
+use Rattle.certificates.specs.Refusal as cert_refusal
 use Rattle.report.specs.declared.refusal.Part.{Part}
 use Rattle.report.specs.declared.refusal.Part.TheVariants as parts
 use Rattle.report.specs.declared.refusal.Refusal.{Refusal}
@@ -42,7 +46,7 @@ use Rattle.restore_program.specs.declared.status.Status.{Status}
 use Rattle.restore_program.specs.declared.status.Status.TheVariants as statuses
 use Rattle.restore_program.specs.declared.words.Settings.{Settings}
 use Rattle.restore_program.specs.Outcome.{IsKnown, IsTraced}
-use Rattle.restore_program.specs.Reply.{IsReady, IsResult, text_of, status_of, refusal_status}
+use Rattle.restore_program.specs.Reply.{IsReady, IsResult, part_status, text_of, status_of, refusal_status}
 use Rattle.restore_program.specs.Requests.{Request, Asks}
 use Rattle.restore_program.specs.TraceRefusals.{HasListAt, IsItem, IsTraceRefusal, list_refusal}
 use Rattle.restore_program.specs.Tracing.{OnTrace, name_twice, names_in, refused_names, unknown_name}
@@ -51,7 +55,9 @@ use Rattle.restore_program.specs.declared.trace.TraceRefusal.TheVariants as trac
 use Rattle.restore_program.specs.WordMeaning.{Means}
 use Rattle.restore_program.specs.Words.{IsBadNumber, IsCommand}
 use Rattle.restore_program.proofs.Gifts.{bad_has_key}
-use Rattle.restore_program.specs.Answer.{most_bytes, IsNetlistText, RefusedNetlist, netlist_too_long, bad_line, no_netlist, IsDumpRefusal, OnDump, OnRecording, dump_too_long, bad_dump, table, IsNetlistOf, OnNetlist, OnRefused, DumpAnswer, RequestAnswer, Answer, usage, bad_number, asked}
+use Rattle.restore_program.specs.Certifying.{ends_with, not_accepted}
+use Rattle.restore_program.specs.Texts.{most_bytes, IsNetlistText, RefusedNetlist, netlist_too_long, bad_line, no_netlist, IsDumpRefusal, RefusedDump, dump_too_long, bad_dump, RefusedCertificate, certificate_too_long, bad_certificate}
+use Rattle.restore_program.specs.Answer.{OnDump, OnRefusedDump, IsDumpOf, OnCertificate, OnRecording, table, IsNetlistOf, OnNetlist, OnRefused, RequestAnswer, Answer, usage, bad_number, asked}
 use Rattle.restore_program.specs.Faults.{AreRefused, NeedsNoInput, TellsEnough, IsWordsFault}
 use Rattle.restore_program.specs.ReplyAnswers.{Replies, IsOfWords, ReplyAnswer, fault_of, refusal_fault, unread_refusal}
 use Rattle.restore_program.specs.Says.{Says}
@@ -108,16 +114,24 @@ bad_net words bytes stated (net.TwoDrivers line) short spells is = λ _. no_netl
 bad_net words bytes stated (net.NoDriver name) short spells is = λ _. no_netlist stated (net.NoDriver name) short (λ e. absurd cc) spells is
 bad_net words bytes stated (net.Loop name count) short spells is = λ _. no_netlist stated (net.Loop name count) short (λ e. absurd cc) spells is
 
-pub bad_dumped : (words : List (List ℕ)) (c : Circuit) (bytes : List ℕ) (all : Bool) (r : DumpRefusal) → length bytes ≤ most_bytes parts.Dump → IsDumpRefusal c bytes r → Replies words (OnDump c bytes all) (replies.Refused (refusals.Dumped r))
-bad_dumped words c bytes all dumps.NoMemory short is = λ plain. absurd plain
-bad_dumped words c bytes all (dumps.Head line) short is = λ _. inl (bad_dump (dumps.Head line) short (λ e. absurd cc) is)
-bad_dumped words c bytes all (dumps.Cycles line) short is = λ _. inl (bad_dump (dumps.Cycles line) short (λ e. absurd cc) is)
-bad_dumped words c bytes all (dumps.TooManyCells line product) short is = λ _. inl (bad_dump (dumps.TooManyCells line product) short (λ e. absurd cc) is)
-bad_dumped words c bytes all (dumps.RowSyntax line) short is = λ _. inl (bad_dump (dumps.RowSyntax line) short (λ e. absurd cc) is)
-bad_dumped words c bytes all (dumps.UnknownSignal line) short is = λ _. inl (bad_dump (dumps.UnknownSignal line) short (λ e. absurd cc) is)
-bad_dumped words c bytes all (dumps.TwiceNamed line) short is = λ _. inl (bad_dump (dumps.TwiceNamed line) short (λ e. absurd cc) is)
-bad_dumped words c bytes all (dumps.RowLength line) short is = λ _. inl (bad_dump (dumps.RowLength line) short (λ e. absurd cc) is)
-bad_dumped words c bytes all (dumps.BadBit line) short is = λ _. inl (bad_dump (dumps.BadBit line) short (λ e. absurd cc) is)
+pub bad_dumped : (words : List (List ℕ)) (c : Circuit) (bytes : List ℕ) (r : DumpRefusal) → length bytes ≤ most_bytes parts.Dump → IsDumpRefusal c bytes r → Replies words (RefusedDump c bytes) (replies.Refused (refusals.Dumped r))
+bad_dumped words c bytes dumps.NoMemory short is = λ plain. absurd plain
+bad_dumped words c bytes (dumps.Head line) short is = λ _. bad_dump (dumps.Head line) short (λ e. absurd cc) is
+bad_dumped words c bytes (dumps.Cycles line) short is = λ _. bad_dump (dumps.Cycles line) short (λ e. absurd cc) is
+bad_dumped words c bytes (dumps.TooManyCells line product) short is = λ _. bad_dump (dumps.TooManyCells line product) short (λ e. absurd cc) is
+bad_dumped words c bytes (dumps.RowSyntax line) short is = λ _. bad_dump (dumps.RowSyntax line) short (λ e. absurd cc) is
+bad_dumped words c bytes (dumps.UnknownSignal line) short is = λ _. bad_dump (dumps.UnknownSignal line) short (λ e. absurd cc) is
+bad_dumped words c bytes (dumps.TwiceNamed line) short is = λ _. bad_dump (dumps.TwiceNamed line) short (λ e. absurd cc) is
+bad_dumped words c bytes (dumps.RowLength line) short is = λ _. bad_dump (dumps.RowLength line) short (λ e. absurd cc) is
+bad_dumped words c bytes (dumps.BadBit line) short is = λ _. bad_dump (dumps.BadBit line) short (λ e. absurd cc) is
+
+pub bad_certified : (words : List (List ℕ)) (c : Circuit) (d : Recording) (bytes : List ℕ) (r : CertRefusal) → length bytes ≤ most_bytes parts.Certificate → cert_refusal.IsRefusal c d bytes r
+    → Replies words (RefusedCertificate c d bytes) (replies.Refused (refusals.Cert r))
+bad_certified words c d bytes certs.NoMemory short is = λ plain. absurd plain
+bad_certified words c d bytes (certs.CertHead line) short is = λ _. bad_certificate (certs.CertHead line) short (λ e. absurd cc) is
+bad_certified words c d bytes (certs.CertSyntax line) short is = λ _. bad_certificate (certs.CertSyntax line) short (λ e. absurd cc) is
+bad_certified words c d bytes (certs.CertCell line) short is = λ _. bad_certificate (certs.CertCell line) short (λ e. absurd cc) is
+bad_certified words c d bytes (certs.NotForced line) short is = λ _. bad_certificate (certs.NotForced line) short (λ e. absurd cc) is
 
 -- ---- a list of names that is refused
 
@@ -156,31 +170,37 @@ trace_no_fault traces.NoMemory place = refl
 abbrev whole : ReadRefusal → Result (WithRoom ℕ) ReadRefusal
 whole refusal = Err refusal
 
--- what is written of a dump that was not read
-pub unread_dump : (words : List (List ℕ)) (told : Option Held) (c : Circuit) (name : List ℕ) (all : Bool) (refusal : ReadRefusal)
-    → (IsErrOf (whole refusal) reads.TooLong → IfSome told (λ held. IfSome (held name) (λ bytes. most_bytes parts.Dump < length bytes)))
+-- what is written of an input that was not read, where this is so of one that is too long
+unread_as : (words : List (List ℕ)) (told : Option Held) (name : List ℕ) (part : Part) (P : Held → List ℕ → Status → Type 0)
+    → ((held : Held) (bytes : List ℕ) → held name ≡ Some bytes → most_bytes part < length bytes → P held (too_long_line part) (part_status part)) → (refusal : ReadRefusal)
+    → (IsErrOf (whole refusal) reads.TooLong → IfSome told (λ held. IfSome (held name) (λ bytes. most_bytes part < length bytes)))
     → IfSome told (λ held. IsNone (held name) → IsErrOf (whole refusal) reads.Fault)
-    → IfSome told (λ held. Replies words (DumpAnswer held c name all) (replies.Refused (unread_refusal parts.Dump refusal)))
-unread_dump words None c name all refusal long missing = tt
-unread_dump words (Some held) c name all reads.Fault long missing = λ plain. absurd plain
-unread_dump words (Some held) c name all reads.NoMemory long missing = λ plain. absurd plain
-unread_dump words (Some held) c name all reads.TooLong long missing = λ _. at (held name) refl where
-  at : (there : Option (List ℕ)) → held name ≡ there → DumpAnswer held c name all (too_long_line parts.Dump) statuses.Dump
+    → IfSome told (λ held. Replies words (P held) (replies.Refused (unread_refusal part refusal)))
+unread_as words None name part P too_long refusal long missing = tt
+unread_as words (Some held) name part P too_long reads.Fault long missing = λ plain. absurd plain
+unread_as words (Some held) name part P too_long reads.NoMemory long missing = λ plain. absurd plain
+unread_as words (Some held) name part P too_long reads.TooLong long missing = λ _. at (held name) refl where
+  at : (there : Option (List ℕ)) → held name ≡ there → P held (too_long_line part) (part_status part)
   at None e = let no : whole reads.TooLong ≡ whole reads.Fault = missing (subst IsNone (sym e) refl) in absurd cc
-  at (Some bytes) e = (bytes, e, inl (dump_too_long (subst (λ o. IfSome o (λ b. most_bytes parts.Dump < length b)) e (long refl))))
+  at (Some bytes) e = too_long held bytes e (subst (λ o. IfSome o (λ b. most_bytes part < length b)) e (long refl))
 
--- what is written of a netlist that was not read
-pub unread_netlist : (words : List (List ℕ)) (told : Option Held) (name : List ℕ) (refusal : ReadRefusal)
-    → (IsErrOf (whole refusal) reads.TooLong → IfSome told (λ held. IfSome (held name) (λ bytes. most_bytes parts.Netlist < length bytes)))
-    → IfSome told (λ held. IsNone (held name) → IsErrOf (whole refusal) reads.Fault)
-    → IfSome told (λ held. Replies words (OnRefused held name) (replies.Refused (unread_refusal parts.Netlist refusal)))
-unread_netlist words None name refusal long missing = tt
-unread_netlist words (Some held) name reads.Fault long missing = λ plain. absurd plain
-unread_netlist words (Some held) name reads.NoMemory long missing = λ plain. absurd plain
-unread_netlist words (Some held) name reads.TooLong long missing = λ _. at (held name) refl where
-  at : (there : Option (List ℕ)) → held name ≡ there → OnRefused held name (too_long_line parts.Netlist) statuses.Netlist
-  at None e = let no : whole reads.TooLong ≡ whole reads.Fault = missing (subst IsNone (sym e) refl) in absurd cc
-  at (Some bytes) e = (bytes, e, netlist_too_long (subst (λ o. IfSome o (λ b. most_bytes parts.Netlist < length b)) e (long refl)))
+module _ (words : List (List ℕ)) (told : Option Held) (name : List ℕ) (refusal : ReadRefusal) where
+  abbrev WasLong : Part → Type 0
+  WasLong part = IsErrOf (whole refusal) reads.TooLong → IfSome told (λ held. IfSome (held name) (λ bytes. most_bytes part < length bytes))
+
+  abbrev WasMissing : Type 0
+  WasMissing = IfSome told (λ held. IsNone (held name) → IsErrOf (whole refusal) reads.Fault)
+
+  pub unread_netlist : WasLong parts.Netlist → WasMissing → IfSome told (λ held. Replies words (OnRefused held name) (replies.Refused (unread_refusal parts.Netlist refusal)))
+  unread_netlist = unread_as words told name parts.Netlist (λ held. OnRefused held name) (λ held bytes there long. (bytes, there, netlist_too_long long)) refusal
+
+  pub unread_dump : (c : Circuit) → WasLong parts.Dump → WasMissing → IfSome told (λ held. Replies words (OnRefusedDump held name c) (replies.Refused (unread_refusal parts.Dump refusal)))
+  unread_dump c = unread_as words told name parts.Dump (λ held. OnRefusedDump held name c) (λ held bytes there long. (bytes, there, dump_too_long long)) refusal
+
+  pub unread_certificate : (c : Circuit) (d : Recording) → WasLong parts.Certificate → WasMissing
+      → IfSome told (λ held. Replies words (OnCertificate held name c d) (replies.Refused (unread_refusal parts.Certificate refusal)))
+  unread_certificate c d =
+      unread_as words told name parts.Certificate (λ held. OnCertificate held name c d) (λ held bytes there long. (bytes, there, not_accepted _ _ (certificate_too_long long))) refusal
 
 -- such a reply is ready
 pub unread_ready : (words : List (List ℕ)) (part : Part) (refusal : ReadRefusal) → IsReady words (replies.Refused (unread_refusal part refusal))
@@ -194,10 +214,17 @@ unread_input part reads.Fault of = of
 unread_input part reads.TooLong of = of
 unread_input part reads.NoMemory of = of
 
-pub held_dump : (words : List (List ℕ)) (told : Option Held) (name bytes : List ℕ) (c : Circuit) (all : Bool) (reply : Reply) → IfSome told (λ held. held name ≡ Some bytes) → Replies words (OnDump c bytes all) reply
-    → IfSome told (λ held. Replies words (DumpAnswer held c name all) reply)
-held_dump words None name bytes c all reply is answer = tt
-held_dump words (Some held) name bytes c all reply is answer = λ plain. (bytes, is, answer plain)
+-- what is so of a text that is held
+pub of_held : (words : List (List ℕ)) (told : Option Held) (name text : List ℕ) (P : List ℕ → List ℕ → Status → Type 0) (reply : Reply) → IfSome told (λ held. held name ≡ Some text) → Replies words (P text) reply
+    → IfSome told (λ held. Replies words (λ written status. (bytes : List ℕ) × (held name ≡ Some bytes) × P bytes written status) reply)
+of_held words None name text P reply is answer = tt
+of_held words (Some held) name text P reply is answer = λ plain. (text, is, answer plain)
+
+pub refused_by_text : {T : Type 0} (told : Option Held) (name text : List ℕ) (P : List ℕ → List ℕ → Status → Type 0) (result : Result T Reply) → IfSome told (λ held. held name ≡ Some text)
+    → IfErr result (λ reply. (words : List (List ℕ)) → Replies words (P text) reply)
+    → IfErr result (λ reply. (words : List (List ℕ)) → IfSome told (λ held. Replies words (λ written status. (bytes : List ℕ) × (held name ≡ Some bytes) × P bytes written status) reply))
+refused_by_text told name text P (Ok n) is refused = cc
+refused_by_text told name text P (Err reply) is refused = λ words. of_held words told name text P reply is (refused words)
 
 -- ---- behind a netlist
 
@@ -209,6 +236,17 @@ module _ (words : List (List ℕ)) (netlist : List ℕ) (P : Held → Circuit �
   pub netlist_read : (told : Option Held) (c : Circuit) → IfSome told (λ held. IsNetlistOf held netlist c) → IfSome told (λ held. Replies words (P held c) reply) → IfSome told (λ held. Replies words (OnNetlist held netlist (P held)) reply)
   netlist_read None c is answer = tt
   netlist_read (Some held) c is answer = λ plain. inr (c, is, answer plain)
+
+-- ---- behind a dump
+
+module _ (words : List (List ℕ)) (dump : List ℕ) (c : Circuit) (P : Held → Recording → List ℕ → Status → Type 0) (reply : Reply) where
+  pub dump_refused : (told : Option Held) → IfSome told (λ held. Replies words (OnRefusedDump held dump c) reply) → IfSome told (λ held. Replies words (OnDump held dump c (P held)) reply)
+  dump_refused None refused = tt
+  dump_refused (Some held) refused = λ plain. inl (refused plain)
+
+  pub dump_read : (told : Option Held) (d : Recording) → IfSome told (λ held. IsDumpOf held dump c d) → IfSome told (λ held. Replies words (P held d) reply) → IfSome told (λ held. Replies words (OnDump held dump c (P held)) reply)
+  dump_read None d is answer = tt
+  dump_read (Some held) d is answer = λ plain. inr (d, is, answer plain)
 
 -- what is so whatever is told
 pub told_or_not : (told : Option Held) (P : Held → Type 0) → ((held : Held) → P held) → IfSome told P
@@ -257,6 +295,12 @@ says_refused words told shaky (refusals.TraceUnknown place item) answer fault = 
 says_refused words told shaky (refusals.TraceTwice place item) answer fault = plainly words told (replies.Refused (refusals.TraceTwice place item)) answer tt
 says_refused words told shaky (refusals.TooLong parts.Netlist) answer fault = plainly words told (replies.Refused (refusals.TooLong parts.Netlist)) answer tt
 says_refused words told shaky (refusals.TooLong parts.Dump) answer fault = plainly words told (replies.Refused (refusals.TooLong parts.Dump)) answer tt
+says_refused words told shaky (refusals.TooLong parts.Certificate) answer fault = plainly words told (replies.Refused (refusals.TooLong parts.Certificate)) answer tt
+says_refused words told shaky (refusals.Cert certs.NoMemory) answer fault = refl
+says_refused words told shaky (refusals.Cert (certs.CertHead line)) answer fault = plainly words told (replies.Refused (refusals.Cert (certs.CertHead line))) answer tt
+says_refused words told shaky (refusals.Cert (certs.CertSyntax line)) answer fault = plainly words told (replies.Refused (refusals.Cert (certs.CertSyntax line))) answer tt
+says_refused words told shaky (refusals.Cert (certs.CertCell line)) answer fault = plainly words told (replies.Refused (refusals.Cert (certs.CertCell line))) answer tt
+says_refused words told shaky (refusals.Cert (certs.NotForced line)) answer fault = plainly words told (replies.Refused (refusals.Cert (certs.NotForced line))) answer tt
 says_refused words told shaky (refusals.Bench bench.NoMemory) answer fault = refl
 says_refused words told shaky (refusals.Bench (bench.Syntax line)) answer fault = plainly words told (replies.Refused (refusals.Bench (bench.Syntax line))) answer tt
 says_refused words told shaky (refusals.Bench (bench.NameLong line)) answer fault = plainly words told (replies.Refused (refusals.Bench (bench.NameLong line))) answer tt
@@ -289,6 +333,12 @@ says_text words told shaky text statuses.WriteFault result answer = absurd resul
 says_text words told shaky text statuses.NoMemory result answer = absurd result
 says_text words told shaky text statuses.Certificate result answer = absurd result
 
+-- how a run ends with a contradiction or without one
+says_ending : (words : List (List ℕ)) (told : Option Held) (shaky : Option (List ℕ → Bool)) (text : List ℕ) (clash : Option Cell) → (IsPlain (ends_with clash) → (held : Held) → TellsEnough words told held → Answer words held text (ends_with clash))
+    → Says words told shaky text (ends_with clash)
+says_ending words told shaky text None answer = answer tt
+says_ending words told shaky text (Some cell) answer = answer tt
+
 pub says : (words : List (List ℕ)) (told : Option Held) (shaky : Option (List ℕ → Bool)) (reply : Reply) → IsReady words reply → ReplyAnswer words told reply → IfSome (fault_of reply) (IsWordsFault words told shaky)
     → Says words told shaky (text_of words reply) (status_of reply)
 says words told shaky (replies.Refused r) ready answer fault = says_refused words told shaky r answer fault
@@ -297,14 +347,5 @@ says words told shaky (replies.Clash n cell) ready answer fault = plainly words 
 says words told shaky (replies.Text text status) ready answer fault = says_text words told shaky text status ready answer
 says words told shaky (replies.Ranking ranked) ready answer fault = plainly words told (replies.Ranking ranked) answer tt
 says words told shaky (replies.Load loaded) ready answer fault = plainly words told (replies.Load loaded) answer tt
-
--- a netlist that is held is refused by its text
-refused_text : (told : Option Held) (name text : List ℕ) (words : List (List ℕ)) (reply : Reply) → IfSome told (λ held. held name ≡ Some text) → Replies words (RefusedNetlist text) reply
-    → IfSome told (λ held. Replies words (OnRefused held name) reply)
-refused_text None name text words reply is replies = cc
-refused_text (Some held) name text words reply is replies = λ plain. (text, is, replies plain)
-
-pub refused_by_text : {T : Type 0} (told : Option Held) (name text : List ℕ) (result : Result T Reply) → IfSome told (λ held. held name ≡ Some text)
-    → IfErr result (λ reply. (words : List (List ℕ)) → Replies words (RefusedNetlist text) reply) → IfErr result (λ reply. (words : List (List ℕ)) → IfSome told (λ held. Replies words (OnRefused held name) reply))
-refused_by_text told name text (Ok n) is refused = cc
-refused_by_text told name text (Err reply) is refused = λ words. refused_text told name text words reply is (refused words)
+says words told shaky (replies.Certificate n log) ready answer fault = says_ending words told shaky (text_of words (replies.Certificate n log)) log.clash (plainly words told (replies.Certificate n log) answer)
+says words told shaky (replies.Checked n facts clash) ready answer fault = says_ending words told shaky (text_of words (replies.Checked n facts clash)) clash (plainly words told (replies.Checked n facts clash) answer)

@@ -6,7 +6,7 @@ use Rattle.std.specs.Str.{bytes_eq}
 use Rattle.std.proofs.lemmas.Bool.{false≢true}
 use Rattle.std.proofs.lemmas.Option.{same_Some, slice_get-map, slice_get_read}
 use Rattle.std.proofs.lemmas.Slice.Eq.{bytes_eq-Decides}
-use Rattle.restore_program.specs.Words.{CommandRule, command_rules, IsCommand, IsGivenRight, IsShaped, Suits, later, load_rule, print_rule, restore_rule, select_rule, simulate_rule}
+use Rattle.restore_program.specs.Words.{CommandRule, command_rules, certify_rule, check_rule, IsCommand, IsGivenRight, IsShaped, Suits, later, load_rule, print_rule, restore_rule, select_rule, simulate_rule}
 
 abbrev SuitsAll : CommandRule → List (List ℕ) → Type 0
 SuitsAll rule words = All (λ word. Any (Suits word) rule.keys) words × All (IsGivenRight words) rule.keys
@@ -41,14 +41,16 @@ not_both rule other words apart shaped again = false≢true (sym apart ∙ (byte
 
 -- ---- a rule of the table
 
--- the shape of a command is that of one of the five
-pub no_shape : (words : List (List ℕ)) → ¬ IsShaped restore_rule words → ¬ IsShaped select_rule words → ¬ IsShaped simulate_rule words → ¬ IsShaped print_rule words → ¬ IsShaped load_rule words → ¬ IsCommand words
-no_shape words no_restore no_select no_simulate no_print no_load (zero, rule, h, e, shaped) = no_restore (subst (λ r. IsShaped r words) (sym e) shaped)
-no_shape words no_restore no_select no_simulate no_print no_load (suc zero, rule, h, e, shaped) = no_select (subst (λ r. IsShaped r words) (sym e) shaped)
-no_shape words no_restore no_select no_simulate no_print no_load (suc (suc zero), rule, h, e, shaped) = no_simulate (subst (λ r. IsShaped r words) (sym e) shaped)
-no_shape words no_restore no_select no_simulate no_print no_load (suc (suc (suc zero)), rule, h, e, shaped) = no_print (subst (λ r. IsShaped r words) (sym e) shaped)
-no_shape words no_restore no_select no_simulate no_print no_load (suc (suc (suc (suc zero))), rule, h, e, shaped) = no_load (subst (λ r. IsShaped r words) (sym e) shaped)
-no_shape words no_restore no_select no_simulate no_print no_load (suc (suc (suc (suc (suc k)))), rule, h, e, shaped) = absurd (omega arith)
+-- the shape of a command is that of one of the seven
+pub no_shape : (words : List (List ℕ)) → ¬ IsShaped restore_rule words → ¬ IsShaped select_rule words → ¬ IsShaped simulate_rule words → ¬ IsShaped print_rule words → ¬ IsShaped load_rule words → ¬ IsShaped certify_rule words → ¬ IsShaped check_rule words → ¬ IsCommand words
+no_shape words no_restore no_select no_simulate no_print no_load no_certify no_check (zero, rule, h, e, shaped) = no_restore (subst (λ r. IsShaped r words) (sym e) shaped)
+no_shape words no_restore no_select no_simulate no_print no_load no_certify no_check (suc zero, rule, h, e, shaped) = no_select (subst (λ r. IsShaped r words) (sym e) shaped)
+no_shape words no_restore no_select no_simulate no_print no_load no_certify no_check (suc (suc zero), rule, h, e, shaped) = no_simulate (subst (λ r. IsShaped r words) (sym e) shaped)
+no_shape words no_restore no_select no_simulate no_print no_load no_certify no_check (suc (suc (suc zero)), rule, h, e, shaped) = no_print (subst (λ r. IsShaped r words) (sym e) shaped)
+no_shape words no_restore no_select no_simulate no_print no_load no_certify no_check (suc (suc (suc (suc zero))), rule, h, e, shaped) = no_load (subst (λ r. IsShaped r words) (sym e) shaped)
+no_shape words no_restore no_select no_simulate no_print no_load no_certify no_check (suc (suc (suc (suc (suc zero)))), rule, h, e, shaped) = no_certify (subst (λ r. IsShaped r words) (sym e) shaped)
+no_shape words no_restore no_select no_simulate no_print no_load no_certify no_check (suc (suc (suc (suc (suc (suc zero))))), rule, h, e, shaped) = no_check (subst (λ r. IsShaped r words) (sym e) shaped)
+no_shape words no_restore no_select no_simulate no_print no_load no_certify no_check (suc (suc (suc (suc (suc (suc (suc k)))))), rule, h, e, shaped) = absurd (omega arith)
 
 pub restore_is_one : Contains command_rules restore_rule
 restore_is_one = (0, lit< tt, refl)
@@ -65,6 +67,12 @@ print_is_one = (3, lit< tt, refl)
 pub load_is_one : Contains command_rules load_rule
 load_is_one = (4, lit< tt, refl)
 
+pub certify_is_one : Contains command_rules certify_rule
+certify_is_one = (5, lit< tt, refl)
+
+pub check_is_one : Contains command_rules check_rule
+check_is_one = (6, lit< tt, refl)
+
 pub shaped_command : (rule : CommandRule) (words : List (List ℕ)) → Contains command_rules rule → IsShaped rule words → IsCommand words
 shaped_command rule words (k, h, e) shaped = (k, rule, h, e, shaped)
 
@@ -75,7 +83,9 @@ small_rule rule (suc zero, h, e) = subst (λ r. 1 + r.files + length r.keys < 16
 small_rule rule (suc (suc zero), h, e) = subst (λ r. 1 + r.files + length r.keys < 16) e (lit< tt)
 small_rule rule (suc (suc (suc zero)), h, e) = subst (λ r. 1 + r.files + length r.keys < 16) e (lit< tt)
 small_rule rule (suc (suc (suc (suc zero))), h, e) = subst (λ r. 1 + r.files + length r.keys < 16) e (lit< tt)
-small_rule rule (suc (suc (suc (suc (suc k)))), h, e) = absurd (omega arith)
+small_rule rule (suc (suc (suc (suc (suc zero)))), h, e) = subst (λ r. 1 + r.files + length r.keys < 16) e (lit< tt)
+small_rule rule (suc (suc (suc (suc (suc (suc zero))))), h, e) = subst (λ r. 1 + r.files + length r.keys < 16) e (lit< tt)
+small_rule rule (suc (suc (suc (suc (suc (suc (suc k)))))), h, e) = absurd (omega arith)
 
 -- the first rule of the table with this name
 by_name : List ℕ → Option CommandRule
@@ -89,7 +99,9 @@ is_by_name rule (suc zero, h, e) = subst (λ r. by_name r.name ≡ Some r) e ref
 is_by_name rule (suc (suc zero), h, e) = subst (λ r. by_name r.name ≡ Some r) e refl
 is_by_name rule (suc (suc (suc zero)), h, e) = subst (λ r. by_name r.name ≡ Some r) e refl
 is_by_name rule (suc (suc (suc (suc zero))), h, e) = subst (λ r. by_name r.name ≡ Some r) e refl
-is_by_name rule (suc (suc (suc (suc (suc k)))), h, e) = absurd (omega arith)
+is_by_name rule (suc (suc (suc (suc (suc zero)))), h, e) = subst (λ r. by_name r.name ≡ Some r) e refl
+is_by_name rule (suc (suc (suc (suc (suc (suc zero))))), h, e) = subst (λ r. by_name r.name ≡ Some r) e refl
+is_by_name rule (suc (suc (suc (suc (suc (suc (suc k)))))), h, e) = absurd (omega arith)
 
 -- so words have the shape of one command at most
 pub one_command : (rule other : CommandRule) (words : List (List ℕ)) → Contains command_rules rule → Contains command_rules other → IsShaped rule words → IsShaped other words → rule ≡ other

@@ -5,6 +5,7 @@ mod AskedRestore
 mod AskedSelection
 mod AskedSimulation
 mod BadNumbers
+mod Checks
 mod CommandShapes
 mod CommandWords
 mod DecidedNumbers
@@ -30,6 +31,7 @@ mod Outcomes
 mod Prepared
 mod Rankings
 mod Reading
+mod ReplyStatuses
 mod SameTests
 mod SimulatedTraces
 mod Simulations
@@ -37,5 +39,4 @@ mod Sounding
 mod TraceNames
 mod TraceSignals
 mod WordPlaces
-mod WordStatuses
 mod WordsDecided

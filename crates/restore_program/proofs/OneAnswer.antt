@@ -1,5 +1,5 @@
 -- There is one answer at most, and accepted inputs are answered.
-use Rattle.std.proofs.Common.{◌≡◌, ℕ, ◌≤◌, ◌<◌, Bool, true, false, List, ◌++◌, length, Some, refl, sym, ap, subst, ◌∙◌, ◌⊎◌, inl, inr, lit<, arith}
+use Rattle.std.proofs.Common.{◌≡◌, ℕ, ◌≤◌, ◌<◌, Bool, true, false, List, ◌++◌, length, Option, None, Some, refl, sym, ap, subst, ◌∙◌, ◌⊎◌, inl, inr, lit<, arith}
 use Rattle.std.specs.Prelude.{codes}
 use Rattle.std.proofs.lemmas.Option.{same_Some}
 use Rattle.sr_model.specs.declared.cells.Cell.{Cell}
@@ -21,8 +21,14 @@ use Rattle.netlist.specs.declared.checks.NetRefusal.TheVariants as net
 use Rattle.dump_reader.specs.Recording.{Recording}
 use Rattle.dump_reader.proofs.lemmas.Laws.{one_reading}
 use Rattle.dump_reader.proofs.lemmas.Laws as dump_laws
+use Rattle.plain_close.proofs.lemmas.Laws.{one_log}
+use Rattle.certificates.specs.declared.claim.Fact.{Fact}
+use Rattle.certificates.specs.Logs.{facts_of}
+use Rattle.certificates.specs.Printed.{cert_text}
+use Rattle.certificates.proofs.lemmas.Laws as certs
+use Rattle.report.specs.Check.{checked_text}
 use Rattle.report.specs.Clash.{clash_line}
-use Rattle.report.specs.InputRefusals.{bench_line, net_line, dump_line}
+use Rattle.report.specs.InputRefusals.{bench_line, cert_line, net_line, dump_line}
 use Rattle.report.specs.Refusals.{word_line}
 use Rattle.report.specs.declared.refusal.Part.{Part}
 use Rattle.report.specs.declared.refusal.Part.TheVariants as parts
@@ -30,9 +36,11 @@ use Rattle.report.specs.declared.refusal.WordRefusal.TheVariants as word_refusal
 use Rattle.report.specs.Table.{table_text}
 use Rattle.restore_program.specs.declared.status.Status.{Status}
 use Rattle.restore_program.specs.declared.status.Status.TheVariants as statuses
-use Rattle.restore_program.specs.Answer.{most_bytes, IsNetlistText, RefusedNetlist, netlist_too_long, bad_line, no_netlist, IsClashOf, IsDumpText, KnownFrom, traced_count, OnDump, OnRecording, RefusedDump, dump_too_long, bad_dump, clash, table, IsNetlistOf, OnNetlist, OnPrint, OnRefused, DumpAnswer, RequestAnswer, Answer, usage, bad_number, asked}
+use Rattle.restore_program.specs.Certifying.{OnCertify, OnCheck, certified, ends_with, is_accepted, not_accepted}
+use Rattle.restore_program.specs.Texts.{most_bytes, IsNetlistText, RefusedNetlist, netlist_too_long, bad_line, no_netlist, IsCertificateText, IsClashOf, IsDumpText, KnownFrom, traced_count, RefusedCertificate, RefusedDump, bad_certificate, certificate_too_long, dump_too_long, bad_dump}
+use Rattle.restore_program.specs.Answer.{OnDump, OnRecording, OnRefusedDump, IsDumpOf, IsCertificateOf, OnCertificate, clash, table, IsNetlistOf, OnNetlist, OnPrint, OnRefused, RequestAnswer, Answer, usage, bad_number, asked}
 use Rattle.restore_program.specs.AnswerLaws.{HasOneAnswer, AcceptedIsCompleted}
-use Rattle.restore_program.specs.Requests.{Request, Asks, restoration, selection, simulation, printing, loading}
+use Rattle.restore_program.specs.Requests.{Request, Asks, certification, checking, restoration, selection, simulation, printing, loading}
 use Rattle.restore_program.specs.Sound.{IsAccepted, IsCompleted}
 use Rattle.restore_program.specs.Selecting.{OnSelect}
 use Rattle.restore_program.specs.Tracing.{OnTrace}
@@ -178,16 +186,58 @@ one_on_recording c d all text other status last (table test passes no_clash) (cl
 one_on_recording c d all text other status last (table test passes _) (table final passes_final _) =
     (ap (λ known. table_text c d.cycles known (traced_count c d) all) (same_test (KnownFrom c d) test final passes passes_final), refl)
 
-one_on_dump : (c : Circuit) (bytes : List ℕ) (all : Bool) (text other : List ℕ) (status last : Status) → IsCircuit c → OnDump c bytes all text status → OnDump c bytes all other last → (text ≡ other) × (status ≡ last)
-one_on_dump c bytes all text other status last circuit (inl a) (inl b) = one_dump_refusal c bytes text other status last circuit a b
-one_on_dump c bytes all text other status last circuit (inl a) (inr (d, is, on)) = absurd (dump_or_refused c bytes d text status circuit a is)
-one_on_dump c bytes all text other status last circuit (inr (d, is, on)) (inl b) = absurd (dump_or_refused c bytes d other last circuit b is)
-one_on_dump c bytes all text other status last circuit (inr (a, is, on)) (inr (b, again, on_again)) =
-    one_on_recording c b all text other status last (subst (λ d. OnRecording c d all text status) (one_recording c bytes a b circuit is again) on) on_again
+one_certificate : (c : Circuit) (d : Recording) (text other : List ℕ) (status last : Status) → OnCertify c d text status → OnCertify c d other last → (text ≡ other) × (status ≡ last)
+one_certificate c d text other status last (certified steps ends is) (certified again next is_too) =
+    let same = one_log (unrolled_over c d.cycles) (dump_has d.rows) steps again ends next is is_too in
+    (ap (λ s. cert_text c.names (facts_of s) ends) same.0 ∙ ap (cert_text c.names (facts_of again)) same.1, ap ends_with same.1)
 
-one_to_dump : (held : Held) (c : Circuit) (dump : List ℕ) (all : Bool) (text other : List ℕ) (status last : Status) → IsCircuit c → DumpAnswer held c dump all text status → DumpAnswer held c dump all other last → (text ≡ other) × (status ≡ last)
-one_to_dump held c dump all text other status last circuit (bytes, there, on) (again, there_again, on_again) =
-    one_on_dump c again all text other status last circuit (subst (λ b. OnDump c b all text status) (same_held held dump bytes again there there_again) on) on_again
+one_certificate_refusal : (c : Circuit) (d : Recording) (bytes text other : List ℕ) (status last : Status) → IsCircuit c → RefusedCertificate c d bytes text status → RefusedCertificate c d bytes other last → (text ≡ other) × (status ≡ last)
+one_certificate_refusal c d bytes text other status last circuit (certificate_too_long long) (certificate_too_long _) = (refl, refl)
+one_certificate_refusal c d bytes text other status last circuit (certificate_too_long long) (bad_certificate _ short _ _) = absurd (not_longer parts.Certificate bytes short long)
+one_certificate_refusal c d bytes text other status last circuit (bad_certificate _ short _ _) (certificate_too_long long) = absurd (not_longer parts.Certificate bytes short long)
+one_certificate_refusal c d bytes text other status last circuit (bad_certificate r _ some is) (bad_certificate s _ some_s is_s) = (ap cert_line (certs.one_refusal c d bytes r s circuit is is_s some some_s), refl)
+
+-- a valid certificate is not refused
+valid_or_refused : (c : Circuit) (d : Recording) (bytes : List ℕ) (facts : List Fact) (ends : Option Cell) (text : List ℕ) (status : Status) → IsCircuit c → RefusedCertificate c d bytes text status
+    → IsCertificateText c d bytes facts ends → ⊥
+valid_or_refused c d bytes facts ends text status circuit (certificate_too_long long) is = not_longer parts.Certificate bytes is.0 long
+valid_or_refused c d bytes facts ends text status circuit (bad_certificate r _ some bad) is = some (certs.not_both c d bytes facts ends r circuit is.1 bad)
+
+one_check : (c : Circuit) (d : Recording) (bytes text other : List ℕ) (status last : Status) → IsCircuit c → OnCheck c d bytes text status → OnCheck c d bytes other last → (text ≡ other) × (status ≡ last)
+one_check c d bytes text other status last circuit (not_accepted _ _ a) (not_accepted _ _ b) = one_certificate_refusal c d bytes text other status last circuit a b
+one_check c d bytes text other status last circuit (not_accepted _ _ a) (is_accepted facts ends is) = absurd (valid_or_refused c d bytes facts ends text status circuit a is)
+one_check c d bytes text other status last circuit (is_accepted facts ends is) (not_accepted _ _ b) = absurd (valid_or_refused c d bytes facts ends other last circuit b is)
+one_check c d bytes text other status last circuit (is_accepted facts ends is) (is_accepted more next is_too) =
+    let same = certs.one_validity c d bytes facts more ends next circuit is.1 is_too.1 in
+    (ap (λ f. checked_text c (length f) ends) same.0 ∙ ap (checked_text c (length more)) same.1, ap ends_with same.1)
+
+one_to_check : (held : Held) (certificate : List ℕ) (c : Circuit) (d : Recording) (text other : List ℕ) (status last : Status) → IsCircuit c → OnCertificate held certificate c d text status → OnCertificate held certificate c d other last
+    → (text ≡ other) × (status ≡ last)
+one_to_check held certificate c d text other status last circuit (bytes, there, on) (again, there_again, on_again) =
+    one_check c d again text other status last circuit (subst (λ b. OnCheck c d b text status) (same_held held certificate bytes again there there_again) on) on_again
+
+-- behind a dump
+module _ (held : Held) (dump : List ℕ) (c : Circuit) (circuit : IsCircuit c) (P : Recording → List ℕ → Status → Type 0) where
+  same_recording : (a b : Recording) → IsDumpOf held dump c a → IsDumpOf held dump c b → a ≡ b
+  same_recording a b (bytes, there, is) (again, there_again, is_again) =
+      one_recording c again a b circuit (subst (λ x. IsDumpText c x a) (same_held held dump bytes again there there_again) is) is_again
+
+  never_refused : (text : List ℕ) (status : Status) (d : Recording) → OnRefusedDump held dump c text status → IsDumpOf held dump c d → ⊥
+  never_refused text status d (bytes, there, refused) (again, there_again, is) =
+      dump_or_refused c again d text status circuit (subst (λ b. RefusedDump c b text status) (same_held held dump bytes again there there_again) refused) is
+
+  one_on_dump : ((d : Recording) (text other : List ℕ) (status last : Status) → P d text status → P d other last → (text ≡ other) × (status ≡ last))
+      → (text other : List ℕ) (status last : Status) → OnDump held dump c P text status → OnDump held dump c P other last → (text ≡ other) × (status ≡ last)
+  one_on_dump one text other status last (inl (bytes, there, a)) (inl (again, there_again, b)) =
+      one_dump_refusal c again text other status last circuit (subst (λ x. RefusedDump c x text status) (same_held held dump bytes again there there_again) a) b
+  one_on_dump one text other status last (inl a) (inr (d, is, on)) = absurd (never_refused text status d a is)
+  one_on_dump one text other status last (inr (d, is, on)) (inl b) = absurd (never_refused other last d b is)
+  one_on_dump one text other status last (inr (a, is, on)) (inr (b, again, on_again)) = one b text other status last (subst (λ d. P d text status) (same_recording a b is again) on) on_again
+
+  -- what is so of this recording
+  pub on_this_dump : (d : Recording) (text : List ℕ) (status : Status) → IsDumpOf held dump c d → OnDump held dump c P text status → P d text status
+  on_this_dump d text status is (inl refused) = absurd (never_refused text status d refused is)
+  on_this_dump d text status is (inr (e, again, on)) = subst (λ x. P x text status) (same_recording e d again is) on
 
 -- ---- one answer
 
@@ -218,11 +268,17 @@ one_print : (c : Circuit) (text other : List ℕ) (status last : Status) → OnP
 one_print c text other status last (e, done) (e', done') = (e ∙ sym e', done ∙ sym done')
 
 one_to_request : (held : Held) (request : Request) (text other : List ℕ) (status last : Status) → RequestAnswer held request text status → RequestAnswer held request other last → (text ≡ other) × (status ≡ last)
-one_to_request held (restoration netlist dump all) = one_on_netlist held netlist (λ c. DumpAnswer held c dump all) (λ c text other status last is. one_to_dump held c dump all text other status last is)
+one_to_request held (restoration netlist dump all) =
+    one_on_netlist held netlist (λ c. OnDump held dump c (λ d. OnRecording c d all)) (λ c text other status last is. one_on_dump held dump c is (λ d. OnRecording c d all) (λ d. one_on_recording c d all) text other status last)
 one_to_request held (selection netlist width cycles seed) = one_on_netlist held netlist (λ c. OnSelect c width cycles seed) (λ c. one_on_select c width cycles seed)
 one_to_request held (simulation netlist cycles seed list) = one_on_netlist held netlist (λ c. OnTrace c cycles seed list) (λ c text other status last is. one_on_trace c cycles seed list text other status last is)
 one_to_request held (printing netlist) = one_on_netlist held netlist OnPrint (λ c text other status last is. one_print c text other status last)
 one_to_request held (loading number signals) = λ text other status last first second. (one_load_text number signals text other first.0 second.0, first.1 ∙ sym second.1)
+one_to_request held (certification netlist dump) =
+    one_on_netlist held netlist (λ c. OnDump held dump c (OnCertify c)) (λ c text other status last is. one_on_dump held dump c is (OnCertify c) (one_certificate c) text other status last)
+one_to_request held (checking netlist dump certificate) =
+    one_on_netlist held netlist (λ c. OnDump held dump c (OnCertificate held certificate c))
+    (λ c text other status last is. one_on_dump held dump c is (OnCertificate held certificate c) (λ d text other status last. one_to_check held certificate c d text other status last is) text other status last)
 
 pub one_answer : HasOneAnswer
 one_answer words held text other status last (usage refused) (usage _) = (refl, refl)
@@ -248,23 +304,41 @@ recording_completed : (c : Circuit) (d : Recording) (all : Bool) (text : List �
 recording_completed c d all text status (clash _ _) = inr refl
 recording_completed c d all text status (table _ _ _) = inl refl
 
-dump_completed : (c : Circuit) (bytes : List ℕ) (d : Recording) (all : Bool) (text : List ℕ) (status : Status) → IsCircuit c → IsDumpText c bytes d → OnDump c bytes all text status → (status ≡ statuses.Done) ⊎ (status ≡ statuses.Contradiction)
-dump_completed c bytes d all text status circuit is (inl refused) = absurd (dump_or_refused c bytes d text status circuit refused is)
-dump_completed c bytes d all text status circuit is (inr (own, _, on)) = recording_completed c own all text status on
+ending_completed : (ends : Option Cell) → (ends_with ends ≡ statuses.Done) ⊎ (ends_with ends ≡ statuses.Contradiction)
+ending_completed None = inl refl
+ending_completed (Some cell) = inr refl
+
+certify_completed : (c : Circuit) (d : Recording) (text : List ℕ) (status : Status) → OnCertify c d text status → (status ≡ statuses.Done) ⊎ (status ≡ statuses.Contradiction)
+certify_completed c d text status (certified steps ends is) = ending_completed ends
+
+check_completed : (held : Held) (certificate : List ℕ) (c : Circuit) (d : Recording) (facts : List Fact) (ends : Option Cell) (text : List ℕ) (status : Status) → IsCircuit c → IsCertificateOf held certificate c d facts ends
+    → OnCertificate held certificate c d text status → (status ≡ statuses.Done) ⊎ (status ≡ statuses.Contradiction)
+check_completed held certificate c d facts ends text status circuit (bytes, there, is) (again, there_again, not_accepted _ _ refused) =
+    absurd (valid_or_refused c d again facts ends text status circuit refused (subst (λ b. IsCertificateText c d b facts ends) (same_held held certificate bytes again there there_again) is))
+check_completed held certificate c d facts ends text status circuit is (again, there_again, is_accepted own end valid) = ending_completed end
 
 -- what is accepted is completed
 completed : (held : Held) (request : Request) (text : List ℕ) (status : Status) → IsAccepted held request → RequestAnswer held request text status → IsCompleted request status
-completed held (restoration netlist dump all) text status (c, files, _) answer =
+completed held (restoration netlist dump all) text status (c, d, files, _) answer =
     let is : IsNetlistOf held netlist c = files 0 (parts.Netlist, netlist) (lit< tt) in
-    let (bytes, d, there, is_dump) = files 1 (parts.Dump, dump) (lit< tt) in
-    let (again, there_again, on) = on_this_netlist held netlist (λ n. DumpAnswer held n dump all) c text status is answer in
-    dump_completed c bytes d all text status (is_circuit is.0 c is.2) is_dump (subst (λ b. OnDump c b all text status) (same_held held dump again bytes there_again there) on)
-completed held (selection netlist width cycles seed) text status (c, files, (has, few)) answer =
+    let on = on_this_netlist held netlist (λ n. OnDump held dump n (λ r. OnRecording n r all)) c text status is answer in
+    recording_completed c d all text status (on_this_dump held dump c (is_circuit is.0 c is.2) (λ r. OnRecording c r all) d text status (files 1 (parts.Dump, dump) (lit< tt)) on)
+completed held (selection netlist width cycles seed) text status (c, d, files, (has, few)) answer =
     ranked_done c width cycles seed text status has few (on_this_netlist held netlist (λ c. OnSelect c width cycles seed) c text status (files 0 (parts.Netlist, netlist) (lit< tt)) answer)
-completed held (simulation netlist cycles seed list) text status (c, files, (sigs, named, few)) answer =
+completed held (simulation netlist cycles seed list) text status (c, d, files, (sigs, named, few)) answer =
     traced_done c cycles seed list text status sigs named few (on_this_netlist held netlist (λ c. OnTrace c cycles seed list) c text status (files 0 (parts.Netlist, netlist) (lit< tt)) answer)
-completed held (printing netlist) text status (c, files, _) answer = (on_this_netlist held netlist OnPrint c text status (files 0 (parts.Netlist, netlist) (lit< tt)) answer).1
+completed held (printing netlist) text status (c, d, files, _) answer = (on_this_netlist held netlist OnPrint c text status (files 0 (parts.Netlist, netlist) (lit< tt)) answer).1
 completed held (loading number signals) text status accepted answer = answer.1
+completed held (certification netlist dump) text status (c, d, files, _) answer =
+    let is : IsNetlistOf held netlist c = files 0 (parts.Netlist, netlist) (lit< tt) in
+    let on = on_this_netlist held netlist (λ n. OnDump held dump n (OnCertify n)) c text status is answer in
+    certify_completed c d text status (on_this_dump held dump c (is_circuit is.0 c is.2) (OnCertify c) d text status (files 1 (parts.Dump, dump) (lit< tt)) on)
+completed held (checking netlist dump certificate) text status (c, d, files, _) answer =
+    let is : IsNetlistOf held netlist c = files 0 (parts.Netlist, netlist) (lit< tt) in
+    let circuit = is_circuit is.0 c is.2 in
+    let on = on_this_netlist held netlist (λ n. OnDump held dump n (OnCertificate held certificate n)) c text status is answer in
+    let (facts, ends, valid) = files 2 (parts.Certificate, certificate) (lit< tt) in
+    check_completed held certificate c d facts ends text status circuit valid (on_this_dump held dump c circuit (OnCertificate held certificate c) d text status (files 1 (parts.Dump, dump) (lit< tt)) on)
 
 pub accepted_is_completed : AcceptedIsCompleted
 accepted_is_completed words held request asks accepted text status answer = completed held request text status accepted (answer_to words held request text status asks answer)

@@ -11,11 +11,11 @@ use Rattle.restore_program.specs.declared.words.Settings.{Settings}
 use Rattle.restore_program.specs.declared.words.Settings.TheVariants as settings
 use Rattle.report.specs.declared.refusal.WordRefusal.{WordRefusal}
 use Rattle.report.specs.declared.refusal.WordRefusal.TheVariants as refusals
-use Rattle.restore_program.specs.Words.{CommandRule, command_rules, Gives, GivesAt, IsBad, IsBadAt, IsBadNumber, IsCommand, IsFirstBad, IsFor, IsGiven, IsGivenRight, IsNumber, IsPrint, IsShaped, KeyRule, Loads, Restores, Simulates, Takes, choice, cycles_rule, later, load_rule, names, number, number_rule, print_rule, restore_rule, seed_rule, select_rule, Selects, signals_rule, simulate_rule, trace_rule, width_rule}
+use Rattle.restore_program.specs.Words.{CommandRule, command_rules, Gives, GivesAt, IsBad, IsBadAt, IsBadNumber, IsCommand, IsFirstBad, IsFor, IsGiven, IsGivenRight, IsNumber, IsCertify, IsCheck, IsPrint, IsShaped, KeyRule, Loads, Restores, Simulates, Takes, choice, certify_rule, check_rule, cycles_rule, later, load_rule, names, number, number_rule, print_rule, restore_rule, seed_rule, select_rule, Selects, signals_rule, simulate_rule, trace_rule, width_rule}
 use Rattle.restore_program.specs.WordMeaning.{Means}
 use Rattle.restore_program.proofs.GivenValues.{same_gift}
 use Rattle.std.specs.Str.{bytes_eq}
-use Rattle.restore_program.proofs.CommandShapes.{load_is_one, not_both, one_command, print_is_one, restore_is_one, select_is_one, shaped_command, simulate_is_one}
+use Rattle.restore_program.proofs.CommandShapes.{certify_is_one, check_is_one, load_is_one, not_both, one_command, print_is_one, restore_is_one, select_is_one, shaped_command, simulate_is_one}
 
 -- ---- a key is given in one place
 
@@ -94,13 +94,19 @@ bad_command words place (k, rule, h, e, (shaped, first)) = (k, rule, h, e, shape
 pub one_bad : (words : List (List ℕ)) (place next : ℕ) → IsBadNumber words place → IsBadNumber words next → place ≡ next
 one_bad words place next (k, rule, h, e, (shaped, first)) other = same_first rule words place next first (bad_of rule words next (k, h, e) shaped other)
 
--- `restore` and `print` have no numbers
+-- `restore`, `print`, `certify` and `check` have no numbers
 pub restore_never_bad : (words : List (List ℕ)) (place : ℕ) → ¬ IsBadAt restore_rule words place
 restore_never_bad words place (zero, key, h, e, (value, gives, bad)) = subst (λ k. IsBad k.takes value) (sym e) bad
 restore_never_bad words place (suc k, key, h, e, more) = absurd (omega arith)
 
 pub print_never_bad : (words : List (List ℕ)) (place : ℕ) → ¬ IsBadAt print_rule words place
 print_never_bad words place bad = let few : bad.0 < 0 = bad.2 in omega arith
+
+pub certify_never_bad : (words : List (List ℕ)) (place : ℕ) → ¬ IsBadAt certify_rule words place
+certify_never_bad words place bad = let few : bad.0 < 0 = bad.2 in omega arith
+
+pub check_never_bad : (words : List (List ℕ)) (place : ℕ) → ¬ IsBadAt check_rule words place
+check_never_bad words place bad = let few : bad.0 < 0 = bad.2 in omega arith
 
 -- ---- the key of `restore`
 
@@ -206,6 +212,8 @@ settings_rule (settings.Select width cycles seed) = select_rule
 settings_rule (settings.Simulate cycles seed trace) = simulate_rule
 settings_rule settings.Print = print_rule
 settings_rule (settings.Load n signals) = load_rule
+settings_rule settings.Certify = certify_rule
+settings_rule settings.Check = check_rule
 
 settings_is_one : (s : Settings) → Contains command_rules (settings_rule s)
 settings_is_one (settings.Restore all) = restore_is_one
@@ -213,6 +221,8 @@ settings_is_one (settings.Select width cycles seed) = select_is_one
 settings_is_one (settings.Simulate cycles seed trace) = simulate_is_one
 settings_is_one settings.Print = print_is_one
 settings_is_one (settings.Load n signals) = load_is_one
+settings_is_one settings.Certify = certify_is_one
+settings_is_one settings.Check = check_is_one
 
 settings_shape : (words : List (List ℕ)) (s : Settings) → Means words (Ok s) → IsShaped (settings_rule s) words
 settings_shape words (settings.Restore all) is = is.2.shaped
@@ -220,6 +230,8 @@ settings_shape words (settings.Select width cycles seed) is = is.1.shaped
 settings_shape words (settings.Simulate cycles seed trace) is = is.1.shaped
 settings_shape words settings.Print is = is.1.shaped
 settings_shape words (settings.Load n signals) is = is.shaped
+settings_shape words settings.Certify is = is.2.shaped
+settings_shape words settings.Check is = is.3.shaped
 
 settings_command : (words : List (List ℕ)) (s : Settings) → Means words (Ok s) → IsCommand words
 settings_command words s is = shaped_command (settings_rule s) words (settings_is_one s) (settings_shape words s is)
@@ -231,6 +243,8 @@ never_bad words (settings.Select width cycles seed) place is = select_or_bad wor
 never_bad words (settings.Simulate cycles seed trace) place is = simulate_or_bad words is.0 cycles seed trace place is.1
 never_bad words settings.Print place is = print_never_bad words place
 never_bad words (settings.Load n signals) place is = load_never_bad words n signals place is
+never_bad words settings.Certify place is = certify_never_bad words place
+never_bad words settings.Check place is = check_never_bad words place
 
 good_settings : (words : List (List ℕ)) (s : Settings) (place : ℕ) → Means words (Ok s) → ¬ IsBadNumber words place
 good_settings words s place is bad = never_bad words s place is (bad_of (settings_rule s) words place (settings_is_one s) (settings_shape words s is) bad).0
@@ -258,6 +272,8 @@ one_settings words (settings.Simulate cycles seed trace) (settings.Simulate cycl
     same_simulate cycles seed trace cycles' seed' trace' (one_simulation words is.0 other.0 cycles seed trace cycles' seed' trace' is.1 other.1)
 one_settings words settings.Print settings.Print is other = refl
 one_settings words (settings.Load n signals) (settings.Load n' signals') is other = same_load n signals n' signals' (one_load words n signals n' signals' is other)
+one_settings words settings.Certify settings.Certify is other = refl
+one_settings words settings.Check settings.Check is other = refl
 one_settings words (settings.Restore all) (settings.Select width' cycles' seed') is other = absurd (never_both words (settings.Restore all) (settings.Select width' cycles' seed') refl is other)
 one_settings words (settings.Restore all) (settings.Simulate cycles' seed' trace') is other = absurd (never_both words (settings.Restore all) (settings.Simulate cycles' seed' trace') refl is other)
 one_settings words (settings.Restore all) settings.Print is other = absurd (never_both words (settings.Restore all) settings.Print refl is other)
@@ -278,6 +294,28 @@ one_settings words (settings.Load n signals) (settings.Restore all') is other = 
 one_settings words (settings.Load n signals) (settings.Select width' cycles' seed') is other = absurd (never_both words (settings.Load n signals) (settings.Select width' cycles' seed') refl is other)
 one_settings words (settings.Load n signals) (settings.Simulate cycles' seed' trace') is other = absurd (never_both words (settings.Load n signals) (settings.Simulate cycles' seed' trace') refl is other)
 one_settings words (settings.Load n signals) settings.Print is other = absurd (never_both words (settings.Load n signals) settings.Print refl is other)
+one_settings words (settings.Restore all) settings.Certify is other = absurd (never_both words (settings.Restore all) settings.Certify refl is other)
+one_settings words (settings.Restore all) settings.Check is other = absurd (never_both words (settings.Restore all) settings.Check refl is other)
+one_settings words (settings.Select width cycles seed) settings.Certify is other = absurd (never_both words (settings.Select width cycles seed) settings.Certify refl is other)
+one_settings words (settings.Select width cycles seed) settings.Check is other = absurd (never_both words (settings.Select width cycles seed) settings.Check refl is other)
+one_settings words (settings.Simulate cycles seed trace) settings.Certify is other = absurd (never_both words (settings.Simulate cycles seed trace) settings.Certify refl is other)
+one_settings words (settings.Simulate cycles seed trace) settings.Check is other = absurd (never_both words (settings.Simulate cycles seed trace) settings.Check refl is other)
+one_settings words settings.Print settings.Certify is other = absurd (never_both words settings.Print settings.Certify refl is other)
+one_settings words settings.Print settings.Check is other = absurd (never_both words settings.Print settings.Check refl is other)
+one_settings words (settings.Load n signals) settings.Certify is other = absurd (never_both words (settings.Load n signals) settings.Certify refl is other)
+one_settings words (settings.Load n signals) settings.Check is other = absurd (never_both words (settings.Load n signals) settings.Check refl is other)
+one_settings words settings.Certify (settings.Restore all') is other = absurd (never_both words settings.Certify (settings.Restore all') refl is other)
+one_settings words settings.Certify (settings.Select width' cycles' seed') is other = absurd (never_both words settings.Certify (settings.Select width' cycles' seed') refl is other)
+one_settings words settings.Certify (settings.Simulate cycles' seed' trace') is other = absurd (never_both words settings.Certify (settings.Simulate cycles' seed' trace') refl is other)
+one_settings words settings.Certify settings.Print is other = absurd (never_both words settings.Certify settings.Print refl is other)
+one_settings words settings.Certify (settings.Load n' signals') is other = absurd (never_both words settings.Certify (settings.Load n' signals') refl is other)
+one_settings words settings.Certify settings.Check is other = absurd (never_both words settings.Certify settings.Check refl is other)
+one_settings words settings.Check (settings.Restore all') is other = absurd (never_both words settings.Check (settings.Restore all') refl is other)
+one_settings words settings.Check (settings.Select width' cycles' seed') is other = absurd (never_both words settings.Check (settings.Select width' cycles' seed') refl is other)
+one_settings words settings.Check (settings.Simulate cycles' seed' trace') is other = absurd (never_both words settings.Check (settings.Simulate cycles' seed' trace') refl is other)
+one_settings words settings.Check settings.Print is other = absurd (never_both words settings.Check settings.Print refl is other)
+one_settings words settings.Check (settings.Load n' signals') is other = absurd (never_both words settings.Check (settings.Load n' signals') refl is other)
+one_settings words settings.Check settings.Certify is other = absurd (never_both words settings.Check settings.Certify refl is other)
 
 -- words have one meaning at most
 pub one_meaning : (words : List (List ℕ)) (r s : Result Settings WordRefusal) → Means words r → Means words s → r ≡ s
@@ -305,6 +343,8 @@ IsExact words r = record {
   simulate : (cycles seed trace : ℕ) → ComesWith r (Ok (settings.Simulate cycles seed trace)) ((netlist : List ℕ) × Simulates words netlist cycles seed trace);
   print : ComesWith r (Ok settings.Print) (IsPrint words);
   load : (number signals : ℕ) → ComesWith r (Ok (settings.Load number signals)) (Loads words number signals);
+  certify : ComesWith r (Ok settings.Certify) (IsCertify words);
+  check : ComesWith r (Ok settings.Check) (IsCheck words);
   usage : ComesWith r (Err refusals.Usage) (¬ IsCommand words);
   number : (place : ℕ) → ComesWith r (Err (refusals.Number place)) (IsBadNumber words place);
 }
@@ -319,6 +359,8 @@ exact_answer words r is = record {
   simulate = λ cycles seed trace. exactly words r (Ok (settings.Simulate cycles seed trace)) is;
   print = exactly words r (Ok settings.Print) is;
   load = λ n signals. exactly words r (Ok (settings.Load n signals)) is;
+  certify = exactly words r (Ok settings.Certify) is;
+  check = exactly words r (Ok settings.Check) is;
   usage = exactly words r (Err refusals.Usage) is;
   number = λ place. exactly words r (Err (refusals.Number place)) is;
 }

@@ -4,10 +4,10 @@ use Rattle.std.specs.Prelude.{Contains}
 use Rattle.std.specs.Str.{bytes_eq}
 use Rattle.std.proofs.lemmas.Option.{same_Some}
 use Rattle.restore_program.specs.Faults.{AreRefused}
-use Rattle.restore_program.specs.Requests.{Request, Asks, Traces, restoration, selection, simulation, printing, loading, rule_of}
+use Rattle.restore_program.specs.Requests.{Request, Asks, Traces, certification, checking, restoration, selection, simulation, printing, loading, rule_of}
 use Rattle.restore_program.specs.Words.{IsBadAt, IsBadNumber, IsCommand, IsShaped, command_rules, simulate_rule, trace_rule}
-use Rattle.restore_program.proofs.CommandShapes.{load_is_one, not_both, print_is_one, restore_is_one, select_is_one, shaped_command, simulate_is_one}
-use Rattle.restore_program.proofs.OneMeaning.{bad_of, given_trace, load_never_bad, one_load, one_restore, one_selection, one_simulation, print_never_bad, restore_never_bad, same_value, select_or_bad, simulate_or_bad}
+use Rattle.restore_program.proofs.CommandShapes.{certify_is_one, check_is_one, load_is_one, not_both, print_is_one, restore_is_one, select_is_one, shaped_command, simulate_is_one}
+use Rattle.restore_program.proofs.OneMeaning.{bad_of, certify_never_bad, check_never_bad, given_trace, load_never_bad, one_load, one_restore, one_selection, one_simulation, print_never_bad, restore_never_bad, same_value, select_or_bad, simulate_or_bad}
 
 -- ---- by the table
 
@@ -17,6 +17,8 @@ is_one (selection n width cycles seed) = select_is_one
 is_one (simulation n cycles seed list) = simulate_is_one
 is_one (printing n) = print_is_one
 is_one (loading number signals) = load_is_one
+is_one (certification n d) = certify_is_one
+is_one (checking n d certificate) = check_is_one
 
 -- the words have the shape of its command
 asked_shape : (words : List (List ℕ)) (request : Request) → Asks words request → IsShaped (rule_of request) words
@@ -25,6 +27,8 @@ asked_shape words (selection n width cycles seed) asks = asks.shaped
 asked_shape words (simulation n cycles seed list) (place, run, gives) = run.shaped
 asked_shape words (printing n) asks = asks.shaped
 asked_shape words (loading number signals) asks = asks.shaped
+asked_shape words (certification n d) asks = asks.shaped
+asked_shape words (checking n d certificate) asks = asks.shaped
 
 pub asked_command : (words : List (List ℕ)) (request : Request) → Asks words request → IsCommand words
 asked_command words request asks = shaped_command (rule_of request) words (is_one request) (asked_shape words request asks)
@@ -36,6 +40,8 @@ never_bad words (selection n width cycles seed) place asks = select_or_bad words
 never_bad words (simulation n cycles seed list) place (own, run, gives) = simulate_or_bad words n cycles seed own place run
 never_bad words (printing n) place asks = print_never_bad words place
 never_bad words (loading number signals) place asks = load_never_bad words number signals place asks
+never_bad words (certification n d) place asks = certify_never_bad words place
+never_bad words (checking n d certificate) place asks = check_never_bad words place
 
 pub asked_good : (words : List (List ℕ)) (request : Request) (place : ℕ) → Asks words request → ¬ IsBadNumber words place
 asked_good words request place asks bad = never_bad words request place asks (bad_of (rule_of request) words place (is_one request) (asked_shape words request asks) bad).0
@@ -73,6 +79,11 @@ one_request words (simulation n cycles seed list) (simulation n' cycles' seed' l
 one_request words (printing n) (printing n') a b = ap printing (same_Some n n' (sym a.is_netlist ∙ b.is_netlist))
 one_request words (loading number signals) (loading number' signals') a b =
     let same = one_load words number signals number' signals' a b in ap (λ x. loading x signals) same.0 ∙ ap (λ x. loading number' x) same.1
+one_request words (certification n d) (certification n' d') a b =
+    ap (λ x. certification x d) (same_Some n n' (sym a.is_netlist ∙ b.is_netlist)) ∙ ap (λ x. certification n' x) (same_Some d d' (sym a.is_dump ∙ b.is_dump))
+one_request words (checking n d certificate) (checking n' d' certificate') a b =
+    ap (λ x. checking x d certificate) (same_Some n n' (sym a.is_netlist ∙ b.is_netlist)) ∙ ap (λ x. checking n' x certificate) (same_Some d d' (sym a.is_dump ∙ b.is_dump))
+    ∙ ap (λ x. checking n' d' x) (same_Some certificate certificate' (sym a.is_certificate ∙ b.is_certificate))
 one_request words (restoration n d all) (selection n' width' cycles' seed') a b = absurd (never_both words (restoration n d all) (selection n' width' cycles' seed') refl a b)
 one_request words (restoration n d all) (simulation n' cycles' seed' list') a b = absurd (never_both words (restoration n d all) (simulation n' cycles' seed' list') refl a b)
 one_request words (restoration n d all) (printing n') a b = absurd (never_both words (restoration n d all) (printing n') refl a b)
@@ -93,3 +104,25 @@ one_request words (loading number signals) (restoration n' d' all') a b = absurd
 one_request words (loading number signals) (selection n' width' cycles' seed') a b = absurd (never_both words (loading number signals) (selection n' width' cycles' seed') refl a b)
 one_request words (loading number signals) (simulation n' cycles' seed' list') a b = absurd (never_both words (loading number signals) (simulation n' cycles' seed' list') refl a b)
 one_request words (loading number signals) (printing n') a b = absurd (never_both words (loading number signals) (printing n') refl a b)
+one_request words (restoration n d all) (certification n' d') a b = absurd (never_both words (restoration n d all) (certification n' d') refl a b)
+one_request words (restoration n d all) (checking n' d' certificate') a b = absurd (never_both words (restoration n d all) (checking n' d' certificate') refl a b)
+one_request words (selection n width cycles seed) (certification n' d') a b = absurd (never_both words (selection n width cycles seed) (certification n' d') refl a b)
+one_request words (selection n width cycles seed) (checking n' d' certificate') a b = absurd (never_both words (selection n width cycles seed) (checking n' d' certificate') refl a b)
+one_request words (simulation n cycles seed list) (certification n' d') a b = absurd (never_both words (simulation n cycles seed list) (certification n' d') refl a b)
+one_request words (simulation n cycles seed list) (checking n' d' certificate') a b = absurd (never_both words (simulation n cycles seed list) (checking n' d' certificate') refl a b)
+one_request words (printing n) (certification n' d') a b = absurd (never_both words (printing n) (certification n' d') refl a b)
+one_request words (printing n) (checking n' d' certificate') a b = absurd (never_both words (printing n) (checking n' d' certificate') refl a b)
+one_request words (loading number signals) (certification n' d') a b = absurd (never_both words (loading number signals) (certification n' d') refl a b)
+one_request words (loading number signals) (checking n' d' certificate') a b = absurd (never_both words (loading number signals) (checking n' d' certificate') refl a b)
+one_request words (certification n d) (restoration n' d' all') a b = absurd (never_both words (certification n d) (restoration n' d' all') refl a b)
+one_request words (certification n d) (selection n' width' cycles' seed') a b = absurd (never_both words (certification n d) (selection n' width' cycles' seed') refl a b)
+one_request words (certification n d) (simulation n' cycles' seed' list') a b = absurd (never_both words (certification n d) (simulation n' cycles' seed' list') refl a b)
+one_request words (certification n d) (printing n') a b = absurd (never_both words (certification n d) (printing n') refl a b)
+one_request words (certification n d) (loading number' signals') a b = absurd (never_both words (certification n d) (loading number' signals') refl a b)
+one_request words (certification n d) (checking n' d' certificate') a b = absurd (never_both words (certification n d) (checking n' d' certificate') refl a b)
+one_request words (checking n d certificate) (restoration n' d' all') a b = absurd (never_both words (checking n d certificate) (restoration n' d' all') refl a b)
+one_request words (checking n d certificate) (selection n' width' cycles' seed') a b = absurd (never_both words (checking n d certificate) (selection n' width' cycles' seed') refl a b)
+one_request words (checking n d certificate) (simulation n' cycles' seed' list') a b = absurd (never_both words (checking n d certificate) (simulation n' cycles' seed' list') refl a b)
+one_request words (checking n d certificate) (printing n') a b = absurd (never_both words (checking n d certificate) (printing n') refl a b)
+one_request words (checking n d certificate) (loading number' signals') a b = absurd (never_both words (checking n d certificate) (loading number' signals') refl a b)
+one_request words (checking n d certificate) (certification n' d') a b = absurd (never_both words (checking n d certificate) (certification n' d') refl a b)

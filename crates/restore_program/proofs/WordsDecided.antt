@@ -3,10 +3,10 @@ use Rattle.std.proofs.Common.{◌⊎◌, ◌<◌, ◌^◌, ◌-◌, ℕ, List, [
 use Rattle.std.specs.Prelude.{Contains}
 use Rattle.std.proofs.lemmas.Option.{slice_get-get_or}
 use Rattle.sr_model.specs.Limits.{max_cycles, max_signals}
-use Rattle.restore_program.specs.Requests.{Asks, Request, loading, printing, restoration, selection, simulation}
+use Rattle.restore_program.specs.Requests.{Asks, Request, certification, checking, loading, printing, restoration, selection, simulation}
 use Rattle.restore_program.specs.WordLaws.{WordsAreDecided}
-use Rattle.restore_program.specs.Words.{CommandRule, IsBadAt, IsBadNumber, IsCommand, IsShaped, all_rule, command_rules, cycles_rule, load_rule, number_rule, print_rule, restore_rule, seed_rule, select_rule, signals_rule, simulate_rule, trace_rule, width_rule}
-use Rattle.restore_program.proofs.CommandShapes.{load_is_one, no_shape, print_is_one, restore_is_one, select_is_one, simulate_is_one}
+use Rattle.restore_program.specs.Words.{CommandRule, IsBadAt, IsBadNumber, IsCommand, IsShaped, all_rule, certify_rule, check_rule, command_rules, cycles_rule, load_rule, number_rule, print_rule, restore_rule, seed_rule, select_rule, signals_rule, simulate_rule, trace_rule, width_rule}
+use Rattle.restore_program.proofs.CommandShapes.{certify_is_one, check_is_one, load_is_one, no_shape, print_is_one, restore_is_one, select_is_one, simulate_is_one}
 use Rattle.restore_program.proofs.CommandWords.{shape_print}
 use Rattle.restore_program.proofs.DecidedNumbers.{choice_of, first_bad, gift_behind, good_gift}
 use Rattle.restore_program.proofs.DecidedShapes.{decided_shape}
@@ -58,6 +58,21 @@ module _ (words : List (List ℕ)) where
       let signals = good_gift load_rule words signals_rule 1 16 max_signals (lit< tt) refl refl good ((shaped.given 1 signals_rule (lit< tt)).given refl) in
       (loading number.0 signals.0, record { shaped = shaped; has_number = number.1; has_signals = signals.1 })
 
+  asked_certify : IsShaped certify_rule words → AsksSome
+  asked_certify shaped =
+      let there : 2 < length words = shaped.files in
+      let before : 1 < length words = omega (arith, there) in
+      (certification (get_or words 1 []) (get_or words 2 []), record { shaped = shaped; is_netlist = slice_get-get_or words 1 [] before; is_dump = slice_get-get_or words 2 [] there })
+
+  asked_check : IsShaped check_rule words → AsksSome
+  asked_check shaped =
+      let there : 3 < length words = shaped.files in
+      let second : 2 < length words = omega (arith, there) in
+      let first : 1 < length words = omega (arith, there) in (
+        checking (get_or words 1 []) (get_or words 2 []) (get_or words 3 []),
+        record { shaped = shaped; is_netlist = slice_get-get_or words 1 [] first; is_dump = slice_get-get_or words 2 [] second; is_certificate = slice_get-get_or words 3 [] there },
+      )
+
   abbrev OneOfThree : Type 0
   OneOfThree = (¬ IsCommand words) ⊎ ((place : ℕ) × IsBadNumber words place) ⊎ AsksSome
 
@@ -77,7 +92,13 @@ module _ (words : List (List ℕ)) where
               | inl print ↦ command_decided print_rule print_is_one print (λ _. asked_print print)
               | inr no_print ↦ elim (decided_shape load_rule words) [
                 | inl load ↦ command_decided load_rule load_is_one load (asked_load load)
-                | inr no_load ↦ inl (no_shape words no_restore no_select no_simulate no_print no_load)
+                | inr no_load ↦ elim (decided_shape certify_rule words) [
+                  | inl certify ↦ command_decided certify_rule certify_is_one certify (λ _. asked_certify certify)
+                  | inr no_certify ↦ elim (decided_shape check_rule words) [
+                    | inl check ↦ command_decided check_rule check_is_one check (λ _. asked_check check)
+                    | inr no_check ↦ inl (no_shape words no_restore no_select no_simulate no_print no_load no_certify no_check)
+                  ]
+                ]
               ]
             ]
           ]

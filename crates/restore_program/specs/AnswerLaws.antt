@@ -1,5 +1,5 @@
 -- The laws of an answer, for all words and all that the inputs hold.
-use Rattle.std.specs.Prelude.{ℕ, ◌≡◌, Bool, List, IsSome, Some}
+use Rattle.std.specs.Prelude.{ℕ, ◌≡◌, ◌≤◌, Bool, List, length, IsSome, Some}
 use Rattle.sr_model.specs.declared.cells.Cell.{Cell}
 use Rattle.sr_model.specs.declared.cells.Sig.{Sig}
 use Rattle.sr_model.specs.Closure.{HasBoth, IsWithin}
@@ -9,9 +9,12 @@ use Rattle.netlist.specs.Circuit.{Circuit}
 use Rattle.dump_reader.specs.Recording.{Recording}
 use Rattle.cycle_sim.specs.Simulation.{IsSimulated, traced_rows}
 use Rattle.restore_program.specs.declared.status.Status.{Status}
-use Rattle.restore_program.specs.Answer.{Answer, KnownFrom}
+use Rattle.report.specs.declared.refusal.Part.TheVariants as parts
+use Rattle.restore_program.specs.Texts.{KnownFrom, most_bytes}
+use Rattle.restore_program.specs.Answer.{Answer, RequestAnswer}
+use Rattle.restore_program.specs.Reply.{IsResult}
 use Rattle.restore_program.specs.Faults.{IsComeTo}
-use Rattle.restore_program.specs.Requests.{File, Request, Asks, files_of}
+use Rattle.restore_program.specs.Requests.{File, Request, Asks, certification, checking, files_of}
 use Rattle.restore_program.specs.Sound.{IsAccepted, IsCompleted}
 
 -- there is one answer at most
@@ -30,6 +33,12 @@ AnswerExists = (words : List (List ℕ)) (held : Held) → ((request : Request) 
 abbrev pub AcceptedIsCompleted : Type 0
 AcceptedIsCompleted =
     (words : List (List ℕ)) (held : Held) (request : Request) → Asks words request → IsAccepted held request → (text : List ℕ) (status : Status) → Answer words held text status → IsCompleted request status
+
+-- what is certified is accepted by a check for the same netlist and dump, unless it is too long
+abbrev pub CertifiedIsAccepted : Type 0
+CertifiedIsAccepted =
+    (held : Held) (netlist dump certificate text : List ℕ) (status : Status) → RequestAnswer held (certification netlist dump) text status → IsResult status → held certificate ≡ Some text
+    → length text ≤ most_bytes parts.Certificate → IsAccepted held (checking netlist dump certificate)
 
 -- what is known from the trace of a simulated execution are bits of the execution, and so is no contradiction
 abbrev pub TraceIsSimulated : Type 0

@@ -1,11 +1,13 @@
 -- Which inputs are come to, and what is said of one that was not read.
 use Rattle.std.specs.Prelude.{ℕ, ◌≡◌, ◌⊎◌, Bool, List, [], ◌∷◌, ◌++◌, Option, Some, IfSome, All}
 use Rattle.sr_outside.specs.Told.{Held, IsSteady}
+use Rattle.sr_model.specs.declared.cells.Cell.{Cell}
 use Rattle.netlist.specs.Circuit.{Circuit}
 use Rattle.dump_reader.specs.Recording.{Recording}
+use Rattle.certificates.specs.declared.claim.Fact.{Fact}
 use Rattle.report.specs.declared.refusal.Part.{Part}
 use Rattle.report.specs.declared.refusal.Part.TheVariants as parts
-use Rattle.restore_program.specs.Answer.{IsDumpText, IsNetlistOf}
+use Rattle.restore_program.specs.Answer.{IsCertificateOf, IsDumpOf, IsNetlistOf}
 use Rattle.restore_program.specs.Requests.{File, Request, Asks, files_of}
 use Rattle.restore_program.specs.Words.{IsBadNumber, IsCommand}
 
@@ -23,14 +25,15 @@ TellsEnough words told held = (told ≡ Some held) ⊎ NeedsNoInput words
 
 -- ---- which input
 
--- the file is held, and its text is that of this netlist, or of a dump of it
-abbrev pub IsAcceptedOn : Circuit → Held → File → Type 0
-IsAcceptedOn c held (parts.Netlist, name) = IsNetlistOf held name c
-IsAcceptedOn c held (parts.Dump, name) = (bytes : List ℕ) × (d : Recording) × (held name ≡ Some bytes) × IsDumpText c bytes d
+-- the file is held, and its text is that of this netlist, of a dump of it with this recording, or of a certificate for both
+abbrev pub IsAcceptedOn : Circuit → Recording → Held → File → Type 0
+IsAcceptedOn c d held (parts.Netlist, name) = IsNetlistOf held name c
+IsAcceptedOn c d held (parts.Dump, name) = IsDumpOf held name c d
+IsAcceptedOn c d held (parts.Certificate, name) = (facts : List Fact) × (clash : Option Cell) × IsCertificateOf held name c d facts clash
 
--- the files are held and accepted, on one netlist
+-- the files are held and accepted, on one netlist and one recording
 abbrev pub AreAccepted : Held → List File → Type 0
-AreAccepted held files = (c : Circuit) × All (IsAcceptedOn c held) files
+AreAccepted held files = (c : Circuit) × (d : Recording) × All (IsAcceptedOn c d held) files
 
 -- The file is come to: it is one of these, and where it is told what the inputs hold, those before it are accepted.
 pub record IsComeTo (told : Option Held) (files : List File) (file : File) : Type 0 where

@@ -1,5 +1,6 @@
 pub mod Answer
 pub mod AnswerLaws
+pub mod Certifying
 pub mod Faults
 pub mod Loading
 pub mod Outcome
@@ -12,6 +13,7 @@ pub mod Selecting
 pub mod Sound
 pub mod Status
 pub mod TraceRefusals
+pub mod Texts
 pub mod Tracing
 pub mod WordLaws
 pub mod WordMeaning

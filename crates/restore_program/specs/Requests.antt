@@ -2,16 +2,18 @@
 use Rattle.std.specs.Prelude.{ℕ, Bool, List, [], ◌∷◌}
 use Rattle.report.specs.declared.refusal.Part.{Part}
 use Rattle.report.specs.declared.refusal.Part.TheVariants as parts
-use Rattle.restore_program.specs.Words.{CommandRule, Restores, Selects, Simulates, Prints, Loads, GivesAt, load_rule, print_rule, restore_rule, select_rule, simulate_rule, trace_rule}
+use Rattle.restore_program.specs.Words.{CommandRule, Restores, Selects, Simulates, Prints, Loads, Certifies, Checks, GivesAt, certify_rule, check_rule, load_rule, print_rule, restore_rule, select_rule, simulate_rule, trace_rule}
 
 -- the restoration of a dump, with the rows of all signals or of the flip-flops alone; a ranking of so many flip-flops, by a run of so many cycles from a seed; a run of so many cycles from a seed, with a trace of the signals that a list names;
--- a netlist's text; or what follows in a netlist of so many signals that is drawn from a number
+-- a netlist's text; what follows in a netlist of so many signals that is drawn from a number; a certificate of what follows from a dump; or the check of one
 pub data Request : Type 0 where
   restoration : (netlist dump : List ℕ) (all : Bool) → Request
   selection : (netlist : List ℕ) (width cycles seed : ℕ) → Request
   simulation : (netlist : List ℕ) (cycles seed : ℕ) (list : List ℕ) → Request
   printing : (netlist : List ℕ) → Request
   loading : (number signals : ℕ) → Request
+  certification : (netlist dump : List ℕ) → Request
+  checking : (netlist dump certificate : List ℕ) → Request
 
 -- the words ask for a run, and the list is the value of their word `trace=..`
 abbrev pub Traces : List (List ℕ) → List ℕ → ℕ → ℕ → List ℕ → Type 0
@@ -23,6 +25,8 @@ Asks words (selection netlist width cycles seed) = Selects words netlist width c
 Asks words (simulation netlist cycles seed list) = Traces words netlist cycles seed list
 Asks words (printing netlist) = Prints words netlist
 Asks words (loading number signals) = Loads words number signals
+Asks words (certification netlist dump) = Certifies words netlist dump
+Asks words (checking netlist dump certificate) = Checks words netlist dump certificate
 
 -- the rule of the command that asks for it
 abbrev pub rule_of : Request → CommandRule
@@ -31,6 +35,8 @@ rule_of (selection netlist width cycles seed) = select_rule
 rule_of (simulation netlist cycles seed list) = simulate_rule
 rule_of (printing netlist) = print_rule
 rule_of (loading number signals) = load_rule
+rule_of (certification netlist dump) = certify_rule
+rule_of (checking netlist dump certificate) = check_rule
 
 -- a file: which input it is, and its name
 abbrev pub File : Type 0
@@ -43,3 +49,5 @@ files_of (selection netlist width cycles seed) = (parts.Netlist, netlist) ∷ []
 files_of (simulation netlist cycles seed list) = (parts.Netlist, netlist) ∷ []
 files_of (printing netlist) = (parts.Netlist, netlist) ∷ []
 files_of (loading number signals) = []
+files_of (certification netlist dump) = (parts.Netlist, netlist) ∷ (parts.Dump, dump) ∷ []
+files_of (checking netlist dump certificate) = (parts.Netlist, netlist) ∷ (parts.Dump, dump) ∷ (parts.Certificate, certificate) ∷ []

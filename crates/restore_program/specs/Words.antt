@@ -60,8 +60,14 @@ signals_rule = record { name = codes "signals"; required = true; takes = number 
 abbrev pub load_rule : CommandRule
 load_rule = record { name = codes "load"; files = 0; keys = number_rule ∷ signals_rule ∷ [] }
 
+abbrev pub certify_rule : CommandRule
+certify_rule = record { name = codes "certify"; files = 2; keys = [] }
+
+abbrev pub check_rule : CommandRule
+check_rule = record { name = codes "check"; files = 3; keys = [] }
+
 abbrev pub command_rules : List CommandRule
-command_rules = restore_rule ∷ select_rule ∷ simulate_rule ∷ print_rule ∷ load_rule ∷ []
+command_rules = restore_rule ∷ select_rule ∷ simulate_rule ∷ print_rule ∷ load_rule ∷ certify_rule ∷ check_rule ∷ []
 
 -- ---- words
 
@@ -183,6 +189,19 @@ pub record Loads (words : List (List ℕ)) (number signals : ℕ) : Type 0 where
   pub has_number : IsGiven load_rule words number_rule number
   pub has_signals : IsGiven load_rule words signals_rule signals
 
+-- the words ask for a certificate of what follows from this netlist and this dump
+pub record Certifies (words : List (List ℕ)) (netlist dump : List ℕ) : Type 0 where
+  pub shaped : IsShaped certify_rule words
+  pub is_netlist : slice_get words 1 ≡ Some netlist
+  pub is_dump : slice_get words 2 ≡ Some dump
+
+-- the words ask for a check of this certificate, of this netlist and this dump
+pub record Checks (words : List (List ℕ)) (netlist dump certificate : List ℕ) : Type 0 where
+  pub shaped : IsShaped check_rule words
+  pub is_netlist : slice_get words 1 ≡ Some netlist
+  pub is_dump : slice_get words 2 ≡ Some dump
+  pub is_certificate : slice_get words 3 ≡ Some certificate
+
 -- the words are `restore` and what it takes
 abbrev pub IsRestore : List (List ℕ) → Type 0
 IsRestore words = (netlist dump : List ℕ) × (all : Bool) × Restores words netlist dump all
@@ -198,3 +217,11 @@ IsSimulate words = (netlist : List ℕ) × (cycles seed trace : ℕ) × Simulate
 -- the words are `select` and what it takes
 abbrev pub IsSelect : List (List ℕ) → Type 0
 IsSelect words = (netlist : List ℕ) × (width cycles seed : ℕ) × Selects words netlist width cycles seed
+
+-- the words are `certify` and what it takes
+abbrev pub IsCertify : List (List ℕ) → Type 0
+IsCertify words = (netlist dump : List ℕ) × Certifies words netlist dump
+
+-- the words are `check` and what it takes
+abbrev pub IsCheck : List (List ℕ) → Type 0
+IsCheck words = (netlist dump certificate : List ℕ) × Checks words netlist dump certificate

@@ -6,7 +6,8 @@ ghost use Rattle.bench_reader.specs.Grammar.{Spells};
 ghost use Rattle.bench_reader.specs.Refusal.{IsRefusal};
 ghost use Rattle.report.specs.declared.refusal.Part.TheVariants as parts;
 ghost use Rattle.restore_program.specs.Reply.{IsReady};
-ghost use Rattle.restore_program.specs.Answer.{most_bytes, IsNetlistOf, IsNetlistText, OnRefused, RefusedNetlist};
+ghost use Rattle.restore_program.specs.Texts.{most_bytes, IsNetlistText, RefusedNetlist};
+ghost use Rattle.restore_program.specs.Answer.{IsNetlistOf, OnRefused};
 ghost use Rattle.restore_program.specs.Faults.{IsComeTo};
 ghost use Rattle.restore_program.specs.Reads.{Reads};
 ghost use Rattle.restore_program.specs.ReplyAnswers.{IsOfWords, Replies, fault_in, unread_refusal};
@@ -20,8 +21,11 @@ use sr_model::{Bytes, Statements};
 use sr_outside::{Inputs, ReadRefusal, read_whole};
 use std::alloc::Global;
 
-/// Bytes of an input.
+/// Bytes of a netlist or a dump.
 const MAX_BYTES: u64 = 16_777_216;
+
+/// Bytes of a certificate.
+const MAX_CERTIFICATE_BYTES: u64 = 268_435_456;
 
 /// The most bytes of an input.
 pub(crate) fn most_bytes(part: Part) -> u64
@@ -29,6 +33,7 @@ pub(crate) fn most_bytes(part: Part) -> u64
 {
     match part {
         Part::Netlist | Part::Dump => MAX_BYTES,
+        Part::Certificate => MAX_CERTIFICATE_BYTES,
     }
 }
 

@@ -1,20 +1,24 @@
 //! What a run writes.
-ghost use Rattle.std.specs.Prelude.{◌≡◌, ◌⊎◌, map};
+ghost use Rattle.std.specs.Prelude.{◌≡◌, ◌⊎◌, ◌↔◌, IsTrue, map};
 ghost use Rattle.std.specs.String.{string_bytes};
 ghost use Rattle.known_planes.specs.Planes.{has};
 ghost use Rattle.report.specs.Table.{table_text};
 ghost use Rattle.report.specs.Writes.{Writes};
-ghost use Rattle.restore_program.specs.Reply.{HasBuffer, IsReady, IsTable, IsTableReply, unrolling_of, text_of, loaded_line, status_of, refusal_status, part_status, bench_status, net_status, dump_status};
+ghost use Rattle.restore_program.specs.Reply.{HasBuffer, IsReady, IsBuffered, IsTable, unrolling_of, text_of, loaded_line, status_of, refusal_status, part_status, bench_status, net_status, dump_status, certificate_status};
+ghost use Rattle.restore_program.specs.Certifying.{ends_with};
 
 use crate::status::Status;
 use bench_reader::BenchRefusal;
+use certificates::CertRefusal;
 use dump_reader::DumpRefusal;
 use greedy_select::Picks;
 use known_planes::Planes;
 use netlist::{NetRefusal, Netlist};
+use plain_close::Log;
 use ratio::Ratio;
 use report::{
-    Part, Refusal, RowBuf, write_clash, write_load, write_picks, write_refusal, write_table,
+    Part, Refusal, RowBuf, write_certificate, write_checked, write_clash, write_load, write_picks,
+    write_refusal, write_table,
 };
 use sr_model::{Bytes, Cell, NoMemory};
 use sr_outside::{Sink, WriteFault, write_all};
@@ -53,17 +57,42 @@ pub struct Ranked {
 #[derive(Drop)]
 pub enum Reply {
     /// One line says why there is no result.
-    Refused { refusal: Refusal },
+    Refused {
+        refusal: Refusal,
+    },
     /// What is known from a dump.
-    Known { table: Table },
+    Known {
+        table: Table,
+    },
     /// Both literals of a cell follow from a dump.
-    Clash { netlist: Netlist, cell: Cell },
+    Clash {
+        netlist: Netlist,
+        cell: Cell,
+    },
     /// A netlist's text or a dump's, and how the run ends with it.
-    Text { text: Bytes, status: Status },
+    Text {
+        text: Bytes,
+        status: Status,
+    },
     /// The lines of picks.
-    Ranking { ranked: Ranked },
+    Ranking {
+        ranked: Ranked,
+    },
     /// The line of a load netlist.
-    Load { loaded: Loaded },
+    Load {
+        loaded: Loaded,
+    },
+    /// The certificate of what follows from a dump.
+    Certificate {
+        netlist: Netlist,
+        log: Log,
+    },
+    /// How many facts a certificate has that is accepted, and the contradiction with which it ends, if so.
+    Checked {
+        netlist: Netlist,
+        facts: u64,
+        clash: Option<Cell>,
+    },
 }
 
 /// The status of a reply that was written whole.
@@ -74,7 +103,19 @@ pub(crate) fn reply_status(reply: &Reply) -> Status
         Reply::Refused { refusal } => refusal_status(refusal),
         Reply::Clash { .. } => Status::Contradiction,
         Reply::Text { status, .. } => *status,
+        Reply::Certificate { log, .. } => ends_with(log.clash),
+        Reply::Checked { clash, .. } => ends_with(*clash),
         Reply::Known { .. } | Reply::Ranking { .. } | Reply::Load { .. } => Status::Done,
+    }
+}
+
+/// How a run ends with a contradiction, or without one.
+fn ends_with(clash: Option<Cell>) -> Status
+    ensures { result ≡ ends_with clash }
+{
+    match clash {
+        None => Status::Done,
+        Some(_) => Status::Contradiction,
     }
 }
 
@@ -85,6 +126,7 @@ fn refusal_status(refusal: &Refusal) -> Status
         Refusal::Bench(refusal) => bench_status(refusal),
         Refusal::Net(refusal) => net_status(refusal),
         Refusal::Dumped(refusal) => dump_status(refusal),
+        Refusal::Cert(refusal) => certificate_status(refusal),
         Refusal::TooLong(part) => part_status(*part),
         Refusal::Words(_)
         | Refusal::WidthOver { .. }
@@ -102,6 +144,7 @@ fn part_status(part: Part) -> Status
     match part {
         Part::Netlist => Status::Netlist,
         Part::Dump => Status::Dump,
+        Part::Certificate => Status::Certificate,
     }
 }
 
@@ -132,7 +175,16 @@ fn dump_status(refusal: &DumpRefusal) -> Status
     }
 }
 
-/// A reply, and the row buffer that a table takes.
+fn certificate_status(refusal: &CertRefusal) -> Status
+    ensures { result ≡ certificate_status refusal.now }
+{
+    match refusal {
+        CertRefusal::NoMemory => Status::NoMemory,
+        _ => Status::Certificate,
+    }
+}
+
+/// A reply, and the buffer by which it is written, if it takes one.
 #[derive(Drop)]
 pub(crate) struct Prepared {
     pub(crate) reply: Reply,
@@ -141,12 +193,12 @@ pub(crate) struct Prepared {
 
 /// Takes the memory that writing the reply takes, before a byte is written. Where it is refused, that is the reply.
 pub(crate) fn prepare(alloc: Global, reply: Reply) -> Prepared
-    ensures same { (result.reply ≡ reply) ⊎ (IsTableReply reply × (result.reply ≡ Reply.Refused Refusal.NoMemory)) }
+    ensures same { (result.reply ≡ reply) ⊎ (IsBuffered reply × (result.reply ≡ Reply.Refused Refusal.NoMemory)) }
     ensures buffer { HasBuffer result.reply result.buf }
 {
-    let Reply::Known { .. } = &reply else {
+    if !is_buffered(&reply) {
         return Prepared { reply, buf: None };
-    };
+    }
     match RowBuf::new(alloc) {
         Ok(buf) => Prepared {
             reply,
@@ -158,6 +210,16 @@ pub(crate) fn prepare(alloc: Global, reply: Reply) -> Prepared
             },
             buf: None,
         },
+    }
+}
+
+/// Whether the reply is written by a buffer.
+fn is_buffered(reply: &Reply) -> bool
+    ensures { IsTrue result ↔ IsBuffered reply.now }
+{
+    match reply {
+        Reply::Known { .. } | Reply::Certificate { .. } => true,
+        _ => false,
     }
 }
 
@@ -179,6 +241,14 @@ pub(crate) fn write_reply<K: Sink>(
         Reply::Text { text, .. } => write_text(text.as_slice(), out),
         Reply::Ranking { ranked } => write_picks(&ranked.netlist, &ranked.picks, out),
         Reply::Load { loaded } => write_loaded(*loaded, out),
+        Reply::Certificate { netlist, log } => {
+            write_certificate(netlist, log, buf.as_mut().unwrap(), out)
+        }
+        Reply::Checked {
+            netlist,
+            facts,
+            clash,
+        } => write_checked(netlist, *facts, *clash, out),
     }
 }
 

@@ -7,7 +7,7 @@ ghost use Rattle.report.specs.declared.refusal.Part.TheVariants as parts;
 ghost use Rattle.sr_model.specs.Limits.{block_count, max_blocks};
 ghost use Rattle.unroll.specs.Problem.{signals_in, unrolled};
 ghost use Rattle.known_planes.specs.Planes.{IsOf, lits};
-ghost use Rattle.restore_program.specs.Answer.{DumpAnswer, OnDump, OnRecording, RequestAnswer, most_bytes};
+ghost use Rattle.restore_program.specs.Answer.{OnDump, OnRecording, RequestAnswer};
 ghost use Rattle.restore_program.specs.Faults.{IsComeTo};
 ghost use Rattle.restore_program.specs.Reads.{Reads};
 ghost use Rattle.restore_program.specs.ReplyAnswers.{IsOfWords, Replies, fault_of};
@@ -15,15 +15,16 @@ ghost use Rattle.restore_program.specs.Outcome.{IsKnown, IsOutcome, IsTraced};
 ghost use Rattle.restore_program.specs.Reply.{IsReady};
 ghost use Rattle.restore_program.specs.Requests.{files_of, restoration};
 
-use crate::netlists::{most_bytes, read_netlist, unread};
+use crate::netlists::read_netlist;
+use crate::recordings::read_recording;
 use crate::reply::{Reply, Table};
-use dump_reader::{Dump, read_dump};
+use dump_reader::Dump;
 use known_planes::{Closer, Planes, seed};
 use netlist::Netlist;
 use plain_close::first_clash;
-use report::{Part, Refusal};
+use report::Refusal;
 use sr_model::{Cell, NoMemory};
-use sr_outside::{Inputs, read_whole};
+use sr_outside::Inputs;
 use std::alloc::Global;
 use std::thread::Threads;
 use unroll::Problem;
@@ -59,44 +60,35 @@ fn dump_reply<R: Threads + Sync, I: Inputs, C: Closer>(
     dump: &str,
     all: bool,
 ) -> Reply
-    ensures answer { (words : List (List ℕ)) → IfSome (I.held inputs.old) (λ held. Replies words (DumpAnswer held n dump.now all) result) }
+    ensures answer { (words : List (List ℕ)) → IfSome (I.held inputs.old) (λ held. Replies words (OnDump held dump.now n (λ d. OnRecording n d all)) result) }
     ensures ready { (words : List (List ℕ)) → IsReady words result }
     ensures not_of_words { ¬ (IsOfWords result) }
     ensures reads { Reads I.held I.shaky I.faults inputs.old inputs.new (λ file. file ≡ (parts.Dump, dump.now)) (fault_of result) }
 {
-    match read_whole(alloc, inputs, dump, most_bytes(Part::Dump)) {
-        Ok(text) => recorded_reply(rt, alloc, closer, n, text.as_slice(), all),
-        Err(refusal) => Reply::Refused {
-            refusal: unread(Part::Dump, refusal),
-        },
+    match read_recording(alloc, inputs, &n, dump) {
+        Ok(d) => recorded_reply(rt, alloc, closer, n, &d, all),
+        Err(reply) => reply,
     }
 }
 
-/// What is written of a dump's text.
+/// What is written of a dump that was read.
 fn recorded_reply<R: Threads + Sync, C: Closer>(
     rt: &R,
     alloc: Global,
     closer: &mut C,
     n: Netlist,
-    bytes: &[u8],
+    dump: &Dump,
     all: bool,
 ) -> Reply
-    requires short { length bytes.now ≤ most_bytes parts.Dump }
-    ensures answer { (words : List (List ℕ)) → Replies words (OnDump n bytes.now all) result }
+    requires signals { All (λ row. row.sig.0 < length n.drivers) dump.now.rows }
+    requires few { block_count (length n.drivers) dump.now.cycles ≤ max_blocks }
+    ensures answer { (words : List (List ℕ)) → Replies words (OnRecording n dump.now all) result }
     ensures ready { (words : List (List ℕ)) → IsReady words result }
     ensures not_of_words { ¬ (IsOfWords result) }
     ensures no_fault { fault_of result ≡ None }
 {
-    let dump = match read_dump(alloc, &n, bytes) {
-        Ok(dump) => dump,
-        Err(refusal) => {
-            return Reply::Refused {
-                refusal: Refusal::Dumped(refusal),
-            };
-        }
-    };
-    match outcome_of(rt, alloc, closer, &Problem::new(&n, dump.cycles()), &dump) {
-        Ok(outcome) => outcome_reply(n, &dump, all, outcome),
+    match outcome_of(rt, alloc, closer, &Problem::new(&n, dump.cycles()), dump) {
+        Ok(outcome) => outcome_reply(n, dump, all, outcome),
         Err(NoMemory) => Reply::Refused {
             refusal: Refusal::NoMemory,
         },

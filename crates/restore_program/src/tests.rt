@@ -7,6 +7,7 @@ use std::process::Abort;
 use std::test::*;
 use std::thread::Threads;
 
+mod checks;
 mod counting;
 mod faults;
 mod loads;
@@ -56,6 +57,14 @@ const SELECT: [&str; 5] = ["select", "net", "width=2", "cycles=2", "seed=1"];
 /// What `SELECT` writes of `GATES`.
 const PICKS: &[u8] = b"r 3/2 1.500\nq 4/4 1.000\n";
 
+const CERTIFY: [&str; 3] = ["certify", "net", "dump"];
+
+const CHECK: [&str; 4] = ["check", "net", "dump", "cert"];
+
+/// What `CERTIFY` writes of `GATES` and `DUMP`.
+const CERTIFICATE: &[u8] =
+    b"srcert 1\ng 0 1 by q 0\nb 0 1 by g 0\nn 0 1 by g 0\na 0 0 by n 0\nr 1 1 by r 0\nend\n";
+
 /// It has more flip-flops to pick than any netlist here.
 const WIDE: [&str; 5] = ["select", "net", "width=99", "cycles=2", "seed=1"];
 
@@ -78,6 +87,18 @@ fn held(alloc: Global, netlist: &[u8], dump: &[u8]) -> Result<MemInputs, Fail> {
     let mut inputs = MemInputs::new(alloc);
     inputs.add("net", netlist)?;
     inputs.add("dump", dump)?;
+    Ok(inputs)
+}
+
+/// Inputs that hold a certificate as `cert` besides.
+fn certified(
+    alloc: Global,
+    netlist: &[u8],
+    dump: &[u8],
+    certificate: &[u8],
+) -> Result<MemInputs, Fail> {
+    let mut inputs = held(alloc, netlist, dump)?;
+    inputs.add("cert", certificate)?;
     Ok(inputs)
 }
 

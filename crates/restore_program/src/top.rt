@@ -5,16 +5,18 @@ ghost use Rattle.std.specs.Io.KnownBytes.{append_known};
 ghost use Rattle.sr_outside.specs.Counts.{IsCounted};
 ghost use Rattle.sr_outside.specs.Told.{AppendsPart, Held, IsFull, LacksPlace};
 ghost use Rattle.restore_program.specs.declared.status.Status.{Status as AnyStatus};
-ghost use Rattle.restore_program.specs.Words.{Gives, IsRestore, IsSelect, IsSimulate, trace_rule};
+ghost use Rattle.restore_program.specs.Words.{Gives, IsCertify, IsCheck, IsRestore, IsSelect, IsSimulate, trace_rule};
 ghost use Rattle.restore_program.specs.Faults.{AreRefused, AreSteady, IsFileOf, NeedsNoInput, TellsEnough};
 ghost use Rattle.restore_program.specs.ReplyAnswers.{IsOfWords, ReplyAnswer, fault_of};
 ghost use Rattle.restore_program.specs.Reads.{Reads};
 ghost use Rattle.restore_program.specs.Requests.{Asks, Request};
 ghost use Rattle.restore_program.specs.Says.{Says};
 ghost use Rattle.restore_program.specs.Status.{IsPlain};
-ghost use Rattle.restore_program.specs.Reply.{HasBuffer, IsReady, status_of};
-ghost use Rattle.restore_program.specs.Sound.{IsAccepted, IsCompleted, IsDumpAgain, IsSoundTable, NoneMatches};
+ghost use Rattle.restore_program.specs.Reply.{HasBuffer, IsReady, IsResult, status_of};
+ghost use Rattle.restore_program.specs.Sound.{IsAccepted, IsCompleted, IsDumpAgain, IsSoundCheck, IsSoundTable, IsValidCertificate, NoneMatches};
 
+use crate::certify::certify_reply;
+use crate::check::check_reply;
 use crate::load::load_reply;
 use crate::print::print_reply;
 use crate::reply::{Prepared, Reply, prepare, reply_status, write_reply};
@@ -58,8 +60,17 @@ pub fn run<R: Threads + Sync, I: Inputs, K: Sink>(
     // A contradiction is written only where no execution matches the dump.
     ensures contradiction { result ≡ Status.Contradiction → IfSome (I.held inputs.old) (NoneMatches (map string_bytes words.now)) }
 
+    // What is certified is a valid certificate for the netlist and the dump.
+    ensures certified { IsResult result → IsCertify (map string_bytes words.now) → (text : List ℕ) × (K.written out.new ≡ append_known (K.written out.old) text)
+        × IfSome (I.held inputs.old) (IsValidCertificate (map string_bytes words.now) text) }
+
+    // A certificate is accepted only where it is valid, and each of its facts is so in every execution that matches the dump.
+    ensures checked { IsResult result → IsCheck (map string_bytes words.now) → (text : List ℕ) × (K.written out.new ≡ append_known (K.written out.old) text)
+        × IfSome (I.held inputs.old) (IsSoundCheck (map string_bytes words.now) text) }
+
     // What is asked for is completed where its files are accepted, the width of a ranking, the names of a trace, and the cells of a run, unless memory, reading or
-    // writing fails: with a table or a contradiction, the lines of the picks, the dump of the run, the text of the netlist, or the line of a load.
+    // writing fails: with a table or a contradiction, the lines of the picks, the dump of the run, the text of the netlist, the line of a load, a certificate, or the
+    // number of its facts.
     ensures completed { (held : Held) (request : Request) → TellsEnough (map string_bytes words.now) (I.held inputs.old) held → Asks (map string_bytes words.now) request
         → IsAccepted held request → IsPlain result → IsCompleted request result }
 
@@ -167,6 +178,16 @@ fn reply_to<R: Threads + Sync, I: Inputs, C: Closer>(
         ),
         Ok(Settings::Print) => print_reply(alloc, inputs, words[1].as_str()),
         Ok(Settings::Load { number, signals }) => load_reply(rt, alloc, closer, number, signals),
+        Ok(Settings::Certify) => {
+            certify_reply(alloc, inputs, words[1].as_str(), words[2].as_str())
+        }
+        Ok(Settings::Check) => check_reply(
+            alloc,
+            inputs,
+            words[1].as_str(),
+            words[2].as_str(),
+            words[3].as_str(),
+        ),
         Err(refusal) => Reply::Refused {
             refusal: Refusal::Words(refusal),
         },

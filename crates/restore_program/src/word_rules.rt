@@ -109,6 +109,18 @@ pub(crate) const SIGNALS: Key = Key {
     },
 };
 
+pub(crate) const CERTIFY: Command = Command {
+    name: "certify",
+    files: 2,
+    keys: &[],
+};
+
+pub(crate) const CHECK: Command = Command {
+    name: "check",
+    files: 3,
+    keys: &[],
+};
+
 pub(crate) const LOAD: Command = Command {
     name: "load",
     files: 0,

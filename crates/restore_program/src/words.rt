@@ -2,15 +2,15 @@
 ghost use Rattle.std.specs.Prelude.{◌≡◌, ◌↔◌, ◌<◌, All, Any, Bool, Contains, IfErr, IsTrue, ℕ, List, OnOk, Some, Ok, Err, map, length};
 ghost use Rattle.std.specs.List.{slice_get};
 ghost use Rattle.std.specs.String.{string_bytes};
-ghost use Rattle.restore_program.specs.Words.{IsBadNumber, IsCommand, IsPrint, IsShaped, Loads, Restores, Selects, Simulates, command_rules, later, load_rule, select_rule, simulate_rule};
+ghost use Rattle.restore_program.specs.Words.{IsBadNumber, IsCertify, IsCheck, IsCommand, IsPrint, IsShaped, Loads, Restores, Selects, Simulates, command_rules, later, load_rule, select_rule, simulate_rule};
 ghost use Rattle.restore_program.specs.WordRules.{IsBadFor, command_rule_of};
 ghost use Rattle.restore_program.specs.WordMeaning.{Means};
 
 use crate::word_keys::{is_chosen, place_of, suit_all};
 use crate::word_numbers::{bad_number, number_of};
 use crate::word_rules::{
-    ALL, CYCLES, Command, LOAD, NUMBER, PRINT, RESTORE, SEED, SELECT, SIGNALS, SIMULATE, TRACE,
-    WIDTH,
+    ALL, CERTIFY, CHECK, CYCLES, Command, LOAD, NUMBER, PRINT, RESTORE, SEED, SELECT, SIGNALS,
+    SIMULATE, TRACE, WIDTH,
 };
 use report::WordRefusal;
 
@@ -30,6 +30,10 @@ pub enum Settings {
     Print,
     /// What follows in the netlist that is drawn from this number, with so many signals.
     Load { number: u64, signals: u32 },
+    /// A certificate of what follows from a netlist and a dump, the two words that follow.
+    Certify,
+    /// The check of a certificate, the third word that follows, of the netlist and the dump before it.
+    Check,
 }
 
 /// What the words of the command line, without the program's name, ask for. The first word is the command. Its files follow, and any text may
@@ -42,6 +46,7 @@ pub enum Settings {
 /// - `print NET`, with no keys.
 /// - `load`, with no files and two keys, each of which has to be given: `number`, any number below 2^64; and `signals`, a number from 16 to
 ///   65,536.
+/// - `certify NET DUMP` and `check NET DUMP CERT`, with no keys.
 ///
 /// It takes no memory, and the time is linear in the words' length.
 pub fn read_words(words: &[String]) -> Result<Settings, WordRefusal>
@@ -53,6 +58,8 @@ pub fn read_words(words: &[String]) -> Result<Settings, WordRefusal>
         ↔ ((netlist : List ℕ) × Simulates (map string_bytes words.now) netlist cycles seed trace) }
     ensures print { (result ≡ Ok Settings.Print) ↔ IsPrint (map string_bytes words.now) }
     ensures load { (number signals : ℕ) → (result ≡ Ok (Settings.Load number signals)) ↔ Loads (map string_bytes words.now) number signals }
+    ensures certify { (result ≡ Ok Settings.Certify) ↔ IsCertify (map string_bytes words.now) }
+    ensures check { (result ≡ Ok Settings.Check) ↔ IsCheck (map string_bytes words.now) }
 
     // The shape is that of no command.
     ensures usage { (result ≡ Err WordRefusal.Usage) ↔ (¬ IsCommand (map string_bytes words.now)) }
@@ -71,6 +78,10 @@ pub fn read_words(words: &[String]) -> Result<Settings, WordRefusal>
         Ok(Settings::Print)
     } else if is_shaped(words, &LOAD) {
         read_load(words)
+    } else if is_shaped(words, &CERTIFY) {
+        Ok(Settings::Certify)
+    } else if is_shaped(words, &CHECK) {
+        Ok(Settings::Check)
     } else {
         Err(WordRefusal::Usage)
     }

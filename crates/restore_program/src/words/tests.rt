@@ -74,6 +74,15 @@ fn shapes(rt: HostRuntime) -> Result<(), Fail> {
         "select net width=0 cycles=1 seed",
         "Select net width=1 cycles=1 seed=0",
         "simulate net width=1 cycles=1 seed=0",
+        "certify",
+        "certify net",
+        "certify net dump cert",
+        "certify net dump all=yes",
+        "Certify net dump",
+        "check net dump",
+        "check net dump cert more",
+        "check net dump cert workers=1",
+        "checks net dump cert",
     ];
     for line in lines {
         let words = words_of(rt.alloc(), line)?;
@@ -131,6 +140,10 @@ fn commands(rt: HostRuntime) -> Result<(), Fail> {
             Settings::Restore { all: true },
         ),
         ("print restore", Settings::Print),
+        ("certify net dump", Settings::Certify),
+        ("certify all=yes all=no", Settings::Certify),
+        ("check net dump cert", Settings::Check),
+        ("check a=b c=d e=f", Settings::Check),
         (
             "select net width=1 cycles=8192 seed=0",
             Settings::Select {

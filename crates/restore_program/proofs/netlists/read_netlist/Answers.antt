@@ -5,6 +5,7 @@ use Rattle.sr_outside.specs.declared.whole.ReadRefusal.TheVariants as reads
 use Rattle.report.specs.declared.refusal.Part.TheVariants as parts
 use Rattle.restore_program.specs.declared.reply.Reply.TheVariants as replies
 use Rattle.restore_program.specs.Answer.{OnRefused}
+use Rattle.restore_program.specs.Texts.{RefusedNetlist}
 use Rattle.restore_program.specs.ReplyAnswers.{IsOfWords, Replies, refusal_fault}
 use Rattle.restore_program.specs.Reply.{IsReady}
 use Rattle.restore_program.proofs.Answering.{refused_by_text, unread_input, unread_netlist, unread_ready}
@@ -40,4 +41,4 @@ pub returns-in-Err-clause-not_of_words : goal.returns-in-Err-clause-not_of_words
 returns-in-Err-clause-not_of_words g c = subst (λ refusal. ¬ IsOfWords (replies.Refused refusal)) (sym c.unread.ensures) (unread_input parts.Netlist c.in-Err.refusal)
 
 pub returns-in-Ok-clause-refused : goal.returns-in-Ok-clause-refused
-returns-in-Ok-clause-refused g c = refused_by_text (g.I.Inputs.held c.args.inputs.now) c.args.name.now c.in-Ok.text.items c.parse_netlist.result c.in-Ok.ensures.bytes c.parse_netlist.ensures.refused
+returns-in-Ok-clause-refused g c = refused_by_text (g.I.Inputs.held c.args.inputs.now) c.args.name.now c.in-Ok.text.items RefusedNetlist c.parse_netlist.result c.in-Ok.ensures.bytes c.parse_netlist.ensures.refused

@@ -15,3 +15,11 @@ returns-in-Load g c =
 pub returns-in-Ranking : goal.returns-in-Ranking
 returns-in-Ranking g c =
     subst (λ reply. Writes g.K.Sink.written g.K.Sink.room g.K.Sink.faults c.args.out.now c.write_picks.new.out c.write_picks.result (text_of (map string_bytes c.args.words.now) reply)) (sym c.in-Ranking.is) c.write_picks.ensures
+
+pub returns-in-Certificate : goal.returns-in-Certificate
+returns-in-Certificate g c =
+    subst (λ reply. Writes g.K.Sink.written g.K.Sink.room g.K.Sink.faults c.args.out.now c.write_certificate.new.out c.write_certificate.result (text_of (map string_bytes c.args.words.now) reply)) (sym c.in-Certificate.is) c.write_certificate.ensures
+
+pub returns-in-Checked : goal.returns-in-Checked
+returns-in-Checked g c =
+    subst (λ reply. Writes g.K.Sink.written g.K.Sink.room g.K.Sink.faults c.args.out.now c.write_checked.new.out c.write_checked.result (text_of (map string_bytes c.args.words.now) reply)) (sym c.in-Checked.is) c.write_checked.ensures

@@ -1,43 +1,19 @@
-use Rattle.std.proofs.Common.{◌≡◌, ◌<◌, ℕ, length, Ok, Err, refl, sym, subst}
-use Rattle.std.specs.Prelude.{IfSome, IsErrOf}
-use Rattle.sr_model.specs.Room.{WithRoom}
-use Rattle.sr_outside.specs.declared.whole.ReadRefusal.TheVariants as reads
+use Rattle.std.proofs.Common.{◌≡◌, sym, subst}
 use Rattle.report.specs.declared.refusal.Part.TheVariants as parts
-use Rattle.restore_program.specs.declared.reply.Reply.TheVariants as replies
-use Rattle.restore_program.specs.Answer.{DumpAnswer, OnDump}
+use Rattle.restore_program.specs.Answer.{OnRecording}
 use Rattle.restore_program.specs.Reads.{Reads}
-use Rattle.restore_program.specs.ReplyAnswers.{IsOfWords, Replies, refusal_fault}
-use Rattle.restore_program.specs.Reply.{IsReady}
-use Rattle.restore_program.proofs.Answering.{held_dump, unread_dump, unread_input, unread_ready}
-use Rattle.restore_program.proofs.Reading.{whole_read}
+use Rattle.restore_program.proofs.Answering.{dump_read, dump_refused, told_or_not}
 use Rattle.restore_program.proofs.restore.dump_reply.Goals as goal
 
 pub returns-in-Ok-clause-answer : goal.returns-in-Ok-clause-answer
 returns-in-Ok-clause-answer g c words =
-    held_dump words (g.I.Inputs.held c.args.inputs.now) c.args.dump.now c.in-Ok.text.items c.args.n c.args.all c.recorded_reply.result c.in-Ok.ensures.bytes
-    (subst (λ bytes. Replies words (OnDump c.args.n bytes c.args.all) c.recorded_reply.result) c.as_slice.ensures (c.recorded_reply.ensures.answer words))
-
-pub returns-in-Ok-clause-reads : goal.returns-in-Ok-clause-reads
-returns-in-Ok-clause-reads g c =
-    subst (Reads g.I.Inputs.held g.I.Inputs.shaky g.I.Inputs.faults c.args.inputs.now c.read_whole.new.inputs (λ file. file ≡ (parts.Dump, c.args.dump.now))) (sym c.recorded_reply.ensures.no_fault)
-    (whole_read g.I.Inputs.held g.I.Inputs.shaky g.I.Inputs.faults c.args.inputs.now c.read_whole.new.inputs _ (parts.Dump, c.args.dump.now) refl (Ok c.in-Ok.text)
-    c.in-Ok.ensures.fault c.in-Ok.ensures.rose c.in-Ok.ensures.never_falls c.in-Ok.ensures.steady c.in-Ok.ensures.held c.in-Ok.ensures.shaky)
-
-pub returns-in-Err-clause-reads : goal.returns-in-Err-clause-reads
-returns-in-Err-clause-reads g c =
-    subst (λ r. Reads g.I.Inputs.held g.I.Inputs.shaky g.I.Inputs.faults c.args.inputs.now c.read_whole.new.inputs (λ file. file ≡ (parts.Dump, c.args.dump.now)) (refusal_fault r)) (sym c.unread.ensures)
-    (whole_read g.I.Inputs.held g.I.Inputs.shaky g.I.Inputs.faults c.args.inputs.now c.read_whole.new.inputs _ (parts.Dump, c.args.dump.now) refl (Err c.in-Err.refusal)
-    c.in-Err.ensures.fault c.in-Err.ensures.rose c.in-Err.ensures.never_falls c.in-Err.ensures.steady c.in-Err.ensures.held c.in-Err.ensures.shaky)
+    dump_read words c.args.dump.now c.args.n (λ held d. OnRecording c.args.n d c.args.all) c.recorded_reply.result (g.I.Inputs.held c.args.inputs.now) c.in-Ok.d c.in-Ok.ensures.dump
+    (told_or_not (g.I.Inputs.held c.args.inputs.now) _ (λ held. c.recorded_reply.ensures.answer words))
 
 pub returns-in-Err-clause-answer : goal.returns-in-Err-clause-answer
 returns-in-Err-clause-answer g c words =
-    subst (λ refusal. IfSome (g.I.Inputs.held c.args.inputs.now) (λ held. Replies words (DumpAnswer held c.args.n c.args.dump.now c.args.all) (replies.Refused refusal))) (sym c.unread.ensures)
-    (unread_dump words (g.I.Inputs.held c.args.inputs.now) c.args.n c.args.dump.now c.args.all c.in-Err.refusal
-    (subst (λ most. IsErrOf {T = WithRoom ℕ} (Err c.in-Err.refusal) reads.TooLong → IfSome (g.I.Inputs.held c.args.inputs.now) (λ held. IfSome (held c.args.dump.now) (λ bytes. most < length bytes))) c.most_bytes.ensures c.in-Err.ensures.long_name)
-    c.in-Err.ensures.not_held)
+    dump_refused words c.args.dump.now c.args.n (λ held d. OnRecording c.args.n d c.args.all) c.in-Err.reply (g.I.Inputs.held c.args.inputs.now) (c.in-Err.ensures.refused words)
 
-pub returns-in-Err-clause-ready : goal.returns-in-Err-clause-ready
-returns-in-Err-clause-ready g c words = subst (λ refusal. IsReady words (replies.Refused refusal)) (sym c.unread.ensures) (unread_ready words parts.Dump c.in-Err.refusal)
-
-pub returns-in-Err-clause-not_of_words : goal.returns-in-Err-clause-not_of_words
-returns-in-Err-clause-not_of_words g c = subst (λ refusal. ¬ IsOfWords (replies.Refused refusal)) (sym c.unread.ensures) (unread_input parts.Dump c.in-Err.refusal)
+pub returns-in-Ok-clause-reads : goal.returns-in-Ok-clause-reads
+returns-in-Ok-clause-reads g c =
+    subst (Reads g.I.Inputs.held g.I.Inputs.shaky g.I.Inputs.faults c.args.inputs.now c.read_recording.new.inputs (λ file. file ≡ (parts.Dump, c.args.dump.now))) (sym c.recorded_reply.ensures.no_fault) c.in-Ok.ensures.reads

@@ -1,7 +1,7 @@
 use Rattle.std.proofs.Common.{[], ◌∷◌, sym, subst}
 use Rattle.std.specs.Prelude.{IfSome}
 use Rattle.report.specs.declared.refusal.Part.TheVariants as parts
-use Rattle.restore_program.specs.Answer.{DumpAnswer}
+use Rattle.restore_program.specs.Answer.{OnDump, OnRecording}
 use Rattle.restore_program.specs.Faults.{IsComeTo}
 use Rattle.restore_program.specs.ReplyAnswers.{Replies, fault_of}
 use Rattle.restore_program.specs.Requests.{files_of, restoration}
@@ -12,8 +12,8 @@ use Rattle.restore_program.proofs.restore.restore_reply.Goals as goal
 
 pub returns-in-Ok-clause-answer : goal.returns-in-Ok-clause-answer
 returns-in-Ok-clause-answer g c words =
-    netlist_read words c.args.netlist.now (λ held n. DumpAnswer held n c.args.dump.now c.args.all) c.dump_reply.result (g.I.Inputs.held c.args.inputs.now) c.in-Ok.n c.in-Ok.ensures.netlist
-    (subst (λ told. IfSome told (λ held. Replies words (DumpAnswer held c.in-Ok.n c.args.dump.now c.args.all) c.dump_reply.result)) (c.in-Ok.ensures.reads []).same_held (c.dump_reply.ensures.answer words))
+    netlist_read words c.args.netlist.now (λ held n. OnDump held c.args.dump.now n (λ d. OnRecording n d c.args.all)) c.dump_reply.result (g.I.Inputs.held c.args.inputs.now) c.in-Ok.n c.in-Ok.ensures.netlist
+    (subst (λ told. IfSome told (λ held. Replies words (OnDump held c.args.dump.now c.in-Ok.n (λ d. OnRecording c.in-Ok.n d c.args.all)) c.dump_reply.result)) (c.in-Ok.ensures.reads []).same_held (c.dump_reply.ensures.answer words))
 
 pub returns-in-Ok-clause-reads : goal.returns-in-Ok-clause-reads
 returns-in-Ok-clause-reads g c =
@@ -25,7 +25,7 @@ returns-in-Ok-clause-reads g c =
 
 pub returns-in-Err-clause-answer : goal.returns-in-Err-clause-answer
 returns-in-Err-clause-answer g c words =
-    netlist_refused words c.args.netlist.now (λ held n. DumpAnswer held n c.args.dump.now c.args.all) c.in-Err.reply (g.I.Inputs.held c.args.inputs.now) (c.in-Err.ensures.refused words)
+    netlist_refused words c.args.netlist.now (λ held n. OnDump held c.args.dump.now n (λ d. OnRecording n d c.args.all)) c.in-Err.reply (g.I.Inputs.held c.args.inputs.now) (c.in-Err.ensures.refused words)
 
 pub returns-in-Err-clause-reads : goal.returns-in-Err-clause-reads
 returns-in-Err-clause-reads g c = c.in-Err.ensures.reads ((parts.Dump, c.args.dump.now) ∷ [])

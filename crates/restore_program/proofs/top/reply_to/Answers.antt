@@ -3,14 +3,14 @@ use Rattle.std.specs.Prelude.{map, Ok, Err}
 use Rattle.std.specs.String.{string_bytes}
 use Rattle.std.proofs.lemmas.List.{length-map}
 use Rattle.restore_program.specs.Reads.{Reads}
-use Rattle.restore_program.specs.Requests.{Asks, Request, loading, restoration, selection, simulation, printing}
+use Rattle.restore_program.specs.Requests.{Asks, Request, certification, checking, loading, restoration, selection, simulation, printing}
 use Rattle.restore_program.specs.Words.{Simulates}
 use Rattle.restore_program.proofs.Answering.{answers_asked, answers_refused, refused_as, refused_ready, told_or_not, words_refused}
 use Rattle.restore_program.proofs.AskedLoad.{load_size}
 use Rattle.restore_program.proofs.AskedRestore.{restore_files, restores_seen}
 use Rattle.restore_program.proofs.AskedSelection.{select_cycles, select_file, selects_seen}
 use Rattle.restore_program.proofs.AskedSimulation.{cycles_counted, has_list, listed, same_netlist, trace_within, traces_list}
-use Rattle.restore_program.proofs.CommandWords.{asked_print, print_file}
+use Rattle.restore_program.proofs.CommandWords.{asked_certify, asked_check, asked_print, certify_files, check_files, print_file}
 use Rattle.restore_program.proofs.Inputless.{needs_files}
 use Rattle.restore_program.proofs.OneRequest.{asked_refused}
 use Rattle.restore_program.proofs.Reading.{none_read, read_among}
@@ -155,6 +155,58 @@ returns-in-Ok-Load-clause-refused g c =
 
 pub returns-in-Ok-Load-clause-reads : goal.returns-in-Ok-Load-clause-reads
 returns-in-Ok-Load-clause-reads g c = subst (Reads g.I.Inputs.held g.I.Inputs.shaky g.I.Inputs.faults _ _ _) (sym c.load_reply.ensures.no_fault) (none_read _ _ _ _ _)
+
+-- ---- certify
+
+pub bounds-words-1-in-Ok-Certify : goal.bounds-words-1-in-Ok-Certify
+bounds-words-1-in-Ok-Certify g c = let few = certify_files string_bytes c.args.words.now (c.in-Ok-Certify.ensures.certify.0 (ap Ok c.in-Ok-Certify.field-0-is)) in omega (arith, few)
+
+pub bounds-words-2-in-Ok-Certify : goal.bounds-words-2-in-Ok-Certify
+bounds-words-2-in-Ok-Certify g c = certify_files string_bytes c.args.words.now (c.in-Ok-Certify.ensures.certify.0 (ap Ok c.in-Ok-Certify.field-0-is))
+
+pub returns-in-Ok-Certify : goal.returns-in-Ok-Certify
+returns-in-Ok-Certify g c =
+    let words : List (List ℕ) = map string_bytes c.args.words.now in
+    let request : Request = certification c.as_str-in-Ok-Certify.result.now c.as_str-in-Ok-Certify-2.result.now in
+    let asked : Asks words request =
+    asked_certify string_bytes c.args.words.now (c.in-Ok-Certify.ensures.certify.0 (ap Ok c.in-Ok-Certify.field-0-is)) c.index-words-1-in-Ok-Certify.result c.index-words-2-in-Ok-Certify.result c.as_str-in-Ok-Certify.result.now
+    c.as_str-in-Ok-Certify-2.result.now c.index-words-1-in-Ok-Certify.is c.index-words-2-in-Ok-Certify.is c.as_str-in-Ok-Certify.ensures.value c.as_str-in-Ok-Certify-2.ensures.value in
+    record {
+      answer = answers_asked (g.I.Inputs.held c.args.inputs.now) words request c.certify_reply.result asked (c.certify_reply.ensures.answer words) (λ needs. absurd (needs_files words request _ _ refl asked needs));
+      ready = c.certify_reply.ensures.ready words;
+      of_words = λ about. absurd (c.certify_reply.ensures.not_of_words about);
+      refused = λ refused. absurd (asked_refused words request asked refused);
+      untouched = λ needs. absurd (needs_files words request _ _ refl asked needs);
+      reads = read_among _ _ _ _ _ _ _ _ (λ file come. (request, asked, come)) c.certify_reply.ensures.reads;
+    }
+
+-- ---- check
+
+pub bounds-words-1-in-Ok-Check : goal.bounds-words-1-in-Ok-Check
+bounds-words-1-in-Ok-Check g c = let few = check_files string_bytes c.args.words.now (c.in-Ok-Check.ensures.check.0 (ap Ok c.in-Ok-Check.field-0-is)) in omega (arith, few)
+
+pub bounds-words-2-in-Ok-Check : goal.bounds-words-2-in-Ok-Check
+bounds-words-2-in-Ok-Check g c = let few = check_files string_bytes c.args.words.now (c.in-Ok-Check.ensures.check.0 (ap Ok c.in-Ok-Check.field-0-is)) in omega (arith, few)
+
+pub bounds-words-3 : goal.bounds-words-3
+bounds-words-3 g c = check_files string_bytes c.args.words.now (c.in-Ok-Check.ensures.check.0 (ap Ok c.in-Ok-Check.field-0-is))
+
+pub returns-in-Ok-Check : goal.returns-in-Ok-Check
+returns-in-Ok-Check g c =
+    let words : List (List ℕ) = map string_bytes c.args.words.now in
+    let request : Request = checking c.as_str-in-Ok-Check.result.now c.as_str-in-Ok-Check-2.result.now c.as_str-in-Ok-Check-3.result.now in
+    let asked : Asks words request =
+    asked_check string_bytes c.args.words.now (c.in-Ok-Check.ensures.check.0 (ap Ok c.in-Ok-Check.field-0-is)) c.index-words-1-in-Ok-Check.result c.index-words-2-in-Ok-Check.result c.index-words-3.result
+    c.as_str-in-Ok-Check.result.now c.as_str-in-Ok-Check-2.result.now c.as_str-in-Ok-Check-3.result.now c.index-words-1-in-Ok-Check.is c.index-words-2-in-Ok-Check.is c.index-words-3.is
+    c.as_str-in-Ok-Check.ensures.value c.as_str-in-Ok-Check-2.ensures.value c.as_str-in-Ok-Check-3.ensures.value in
+    record {
+      answer = answers_asked (g.I.Inputs.held c.args.inputs.now) words request c.check_reply.result asked (c.check_reply.ensures.answer words) (λ needs. absurd (needs_files words request _ _ refl asked needs));
+      ready = c.check_reply.ensures.ready words;
+      of_words = λ about. absurd (c.check_reply.ensures.not_of_words about);
+      refused = λ refused. absurd (asked_refused words request asked refused);
+      untouched = λ needs. absurd (needs_files words request _ _ refl asked needs);
+      reads = read_among _ _ _ _ _ _ _ _ (λ file come. (request, asked, come)) c.check_reply.ensures.reads;
+    }
 
 -- ---- words that are refused
 

@@ -3,11 +3,11 @@ use Rattle.std.specs.String.{string_bytes}
 use Rattle.sr_outside.specs.Told.{Held}
 use Rattle.restore_program.specs.Says.{Says}
 use Rattle.restore_program.specs.Status.{IsPlain}
-use Rattle.restore_program.specs.Reply.{status_of, text_of}
+use Rattle.restore_program.specs.Reply.{IsResult, status_of, text_of}
 use Rattle.restore_program.specs.Sound.{IsCompleted}
 use Rattle.restore_program.proofs.Answering.{says}
-use Rattle.restore_program.proofs.Sounding.{again_reply, clash_reply, completes, sound_reply}
-use Rattle.restore_program.proofs.WordStatuses.{status_of_words}
+use Rattle.restore_program.proofs.Sounding.{again_reply, check_reply, clash_reply, completes, sound_reply, valid_reply}
+use Rattle.restore_program.proofs.ReplyStatuses.{fault_status, status_is_written, status_of_fault, status_of_words}
 use Rattle.restore_program.proofs.top.run.Goals as goal
 
 pub returns-in-Ok-clause-answer : goal.returns-in-Ok-clause-answer
@@ -38,6 +38,20 @@ pub returns-in-Ok-clause-contradiction : goal.returns-in-Ok-clause-contradiction
 returns-in-Ok-clause-contradiction g c e =
     clash_reply (map string_bytes c.args.words.now) c.prepared_reply-reply.result.reply (g.I.Inputs.held c.args.inputs.now) c.prepared_reply-reply.ensures.answer (sym c.reply_status-status.ensures ∙ e)
 
+pub returns-in-Ok-clause-certified : goal.returns-in-Ok-clause-certified
+returns-in-Ok-clause-certified g c result asks = (
+  text_of (map string_bytes c.args.words.now) c.prepared_reply-reply.result.reply,
+  c.in-Ok.ensures.appended,
+  valid_reply (map string_bytes c.args.words.now) c.prepared_reply-reply.result.reply (g.I.Inputs.held c.args.inputs.now) asks c.prepared_reply-reply.ensures.answer (subst IsResult c.reply_status-status.ensures result),
+)
+
+pub returns-in-Ok-clause-checked : goal.returns-in-Ok-clause-checked
+returns-in-Ok-clause-checked g c result asks = (
+  text_of (map string_bytes c.args.words.now) c.prepared_reply-reply.result.reply,
+  c.in-Ok.ensures.appended,
+  check_reply (map string_bytes c.args.words.now) c.prepared_reply-reply.result.reply (g.I.Inputs.held c.args.inputs.now) asks c.prepared_reply-reply.ensures.answer (subst IsResult c.reply_status-status.ensures result),
+)
+
 pub returns-in-Ok-clause-completed : goal.returns-in-Ok-clause-completed
 returns-in-Ok-clause-completed g c held request enough asks accepted =
     subst (λ status. IsPlain status → IsCompleted request status) (sym c.reply_status-status.ensures)
@@ -50,6 +64,22 @@ returns-in-Ok-clause-usage g c e =
 pub returns-in-Ok-clause-refused : goal.returns-in-Ok-clause-refused
 returns-in-Ok-clause-refused g c refused =
     inl (c.reply_status-status.ensures ∙ c.prepared_reply-reply.ensures.refused refused)
+
+pub returns-in-Ok-clause-read_fault : goal.returns-in-Ok-clause-read_fault
+returns-in-Ok-clause-read_fault g c e =
+    c.prepared_reply-reply.ensures.reads.counted (status_of_fault (map string_bytes c.args.words.now) c.prepared_reply-reply.result.reply c.prepared_reply-reply.ensures.ready (sym c.reply_status-status.ensures ∙ e))
+
+pub returns-in-Ok-clause-read_rose : goal.returns-in-Ok-clause-read_rose
+returns-in-Ok-clause-read_rose g c rose = inl (c.reply_status-status.ensures ∙ fault_status c.prepared_reply-reply.result.reply (c.prepared_reply-reply.ensures.reads.rose rose))
+
+pub returns-in-Ok-clause-write_fault : goal.returns-in-Ok-clause-write_fault
+returns-in-Ok-clause-write_fault g c e = absurd (status_is_written (map string_bytes c.args.words.now) c.prepared_reply-reply.result.reply c.prepared_reply-reply.ensures.ready (sym c.reply_status-status.ensures ∙ e))
+
+pub returns-in-Ok-clause-part : goal.returns-in-Ok-clause-part
+returns-in-Ok-clause-part g c e = absurd (status_is_written (map string_bytes c.args.words.now) c.prepared_reply-reply.result.reply c.prepared_reply-reply.ensures.ready (sym c.reply_status-status.ensures ∙ e))
+
+pub returns-in-Ok-clause-full : goal.returns-in-Ok-clause-full
+returns-in-Ok-clause-full g c e = absurd (status_is_written (map string_bytes c.args.words.now) c.prepared_reply-reply.result.reply c.prepared_reply-reply.ensures.ready (sym c.reply_status-status.ensures ∙ e))
 
 pub returns-clause-part : goal.returns-clause-part
 returns-clause-part g c _ = (

@@ -10,6 +10,9 @@ use Rattle.restore_program.proofs.Simulations.{cycles_given, given_number, given
 use Rattle.restore_program.proofs.WordPlaces.{drop_images}
 use Rattle.restore_program.proofs.words.read_simulate.Goals as goal
 
+pub check_numbers-requires-clause-table : goal.check_numbers-requires-clause-table
+check_numbers-requires-clause-table c = (2, lit< tt, refl)
+
 pub unwrap-requires : goal.unwrap-requires
 unwrap-requires c =
     let text = string_bytes {Z = Global} in
