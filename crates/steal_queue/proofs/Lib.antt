@@ -1,0 +1,4 @@
+mod Sums
+mod NumberSums
+mod RuleSteps
+mod SideSums
